@@ -1,0 +1,47 @@
+-- What a store holds: its blocks, and a map over their tags.
+use Rattle.std.specs.Prelude.{◌≡◌, ◌≢◌, ℕ, ◌*◌, ◌≤◌, List, [], ◌∷◌, length, Option, None, Some, IsTrue, MatchOption, ⊤, refl}
+use Rattle.std.specs.List.{AllByRecursion}
+use Rattle.std.specs.FinMap.{get, len, from_entries}
+use Rattle.pk_base.specs.declared.tag.Tag.{Tag}
+use Rattle.pk_base.specs.declared.entity.Entity.{Entity}
+use Rattle.pk_base.specs.Entity.{owner_of}
+use Rattle.pk_model.specs.Tags.{tags_of, owns, Ascends}
+use Rattle.std.specs.Coded.{Coded, code_by, coded×, coded_list, coded_ℕ}
+use Rattle.pk_model.specs.Maps.{EntityMap}
+use Rattle.pk_model.specs.Codes.{map_code}
+
+pub record Stored : Type 0 where
+  pub blocks : List ℕ
+  pub map : EntityMap
+
+abbrev pub stored_code : Coded Stored
+stored_code = code_by (List ℕ × EntityMap) (coded× (coded_list coded_ℕ) map_code) (λ s. (s.blocks, s.map)) (λ p. record { blocks = p.0; map = p.1 }) (λ _. refl)
+
+-- the tag's block is owned, and so is that of the entity's owner, which is another tag
+pub record IsHosted (blocks : List ℕ) (t : Tag) (e : Entity) : Type 0 where
+  pub owned : IsTrue (owns blocks t)
+  pub owner : MatchOption (owner_of e) ⊤ (λ o. (o ≢ t) × IsTrue (owns blocks o))
+
+abbrev pub IfHosted : List ℕ → Tag → Option Entity → Type 0
+IfHosted blocks t to = MatchOption to ⊤ (IsHosted blocks t)
+
+-- the tags that have an entity in their slot, with it
+abbrev pub live_entries : List Tag → List (Option Entity) → List (Tag × Entity)
+live_entries (t ∷ ts) (Some e ∷ slots) = (t, e) ∷ live_entries ts slots
+live_entries (t ∷ ts) (None ∷ slots) = live_entries ts slots
+live_entries [] slots = []
+live_entries (t ∷ ts) [] = []
+
+unfoldable pub map_of : List ℕ → List (Option Entity) → EntityMap
+map_of blocks slots = from_entries (live_entries (tags_of blocks) slots)
+
+abbrev pub stored : List ℕ → List (Option Entity) → Stored
+stored blocks slots = record { blocks = blocks; map = map_of blocks slots }
+
+-- the slots of the blocks, and how many of them have an entity
+pub record IsKept (blocks : List ℕ) (slots : List (Option Entity)) (live : ℕ) : Type 0 where
+  pub places : length slots ≡ 64 * length blocks
+  pub ascending : Ascends blocks
+  pub range : AllByRecursion (λ b. (1 ≤ b) × (b ≤ 262143)) blocks
+  pub count : live ≡ len (map_of blocks slots)
+  pub hosted : (t : Tag) (e : Entity) → get (map_of blocks slots) t ≡ Some e → IsHosted blocks t e

@@ -1,0 +1,9 @@
+pub mod Blocks
+pub mod Rising
+pub mod Live
+pub mod Restored
+pub mod Found
+pub mod Differs
+pub mod Among
+pub mod Steps
+pub mod Valid

@@ -1,0 +1,6 @@
+use Rattle.std.proofs.Common.{sym}
+use Rattle.pk_model.proofs.TagLists.{tag_at-tags_of}
+use Rattle.partition.proofs.tags.tag_in.Goals as goal
+
+pub returns : goal.returns
+returns c = sym (tag_at-tags_of c.args.blocks.now c.args.place c.requires.place)

@@ -1,0 +1,16 @@
+//! A partition: solids that roll back and forward between marks, with the journal of all that was done.
+#![tactic(auto)]
+
+pub use partition::Partition;
+
+mod copies;
+mod difference;
+mod goes;
+mod marks;
+mod partition;
+mod perform;
+mod restore;
+mod tags;
+#[cfg(test)]
+mod tests;
+mod vertex_body;

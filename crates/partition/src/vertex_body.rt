@@ -1,0 +1,116 @@
+ghost use Rattle.std.specs.Prelude.{◌≡◌, ◌+◌, ◌*◌, ◌≤◌, ◌++◌, not, length, take};
+ghost use Rattle.std.specs.List.{AllByRecursion};
+ghost use Rattle.pk_model.specs.Tags.{Ascends, next_tags};
+ghost use Rattle.pk_model.specs.VertexBodies.{is_coordinate, first_outside, mvfs};
+ghost use Rattle.partition.specs.BodyTags.{AreBodyTags, next_body_tags, with_body};
+
+use crate::tags::{list_next, tag_in};
+use entity_store::{Steps, Store};
+use pk_base::{Entity, Point, Tag, TagList, Triple};
+use std::sync::ledger::Ledger;
+
+/// The greatest coordinate of a point; the least is its negative.
+const MOST_COORDINATE: i64 = 1_048_576;
+
+fn is_outside(v: i64) -> bool
+    ensures { result ≡ not (is_coordinate v) }
+{
+    v < -MOST_COORDINATE || MOST_COORDINATE < v
+}
+
+/// The first of the three that is no coordinate.
+pub(crate) fn outside(at: Triple) -> Option<i64>
+    ensures { result ≡ first_outside at }
+{
+    if is_outside(at.x) {
+        return Some(at.x);
+    }
+    if is_outside(at.y) {
+        return Some(at.y);
+    }
+    if is_outside(at.z) {
+        return Some(at.z);
+    }
+    None
+}
+
+fn point_of(at: Triple) -> Point
+    requires { first_outside at ≡ None }
+    ensures { result ≡ record { x = at.x; y = at.y; z = at.z } }
+{
+    Point {
+        x: at.x as i32,
+        y: at.y as i32,
+        z: at.z as i32,
+    }
+}
+
+/// Makes a vertex body of the next five tags, and lists them.
+pub(crate) fn make_vertex_body<L: Ledger>(
+    store: &mut Store,
+    used: u64,
+    at: Triple,
+    made: &mut TagList,
+    steps: &mut Steps<L>,
+)
+    requires room { used + 5 ≤ 64 * length store.old.blocks }
+    requires spare { 5 ≤ made.old.spare }
+    requires inside { first_outside at ≡ None }
+    ensures map { store.new ≡ record store.old { map = (mvfs store.old.map at (next_tags store.old.blocks used)).map } }
+    ensures made { made.new.items ≡ made.old.items ++ take 5 (next_tags store.old.blocks used) }
+{
+    list_next(store.blocks(), used, 5, made);
+    let tags = body_tags(store.blocks(), used);
+    put_vertex_body(store, &tags, point_of(at), steps);
+}
+
+/// The tags of a vertex body's parts.
+#[derive(Clone, Copy)]
+pub(crate) struct BodyTags {
+    pub body: Tag,
+    pub shell: Tag,
+    pub face: Tag,
+    pub ring: Tag,
+    pub vertex: Tag,
+}
+
+fn body_tags(blocks: &[u32], used: u64) -> BodyTags
+    requires room { used + 5 ≤ 64 * length blocks.now }
+    requires range { AllByRecursion (λ b. (1 ≤ b) × (b ≤ 262143)) blocks.now }
+    requires ascending { Ascends blocks.now }
+    ensures { result ≡ next_body_tags blocks.now used }
+{
+    BodyTags {
+        body: tag_in(blocks, used),
+        shell: tag_in(blocks, used + 1),
+        face: tag_in(blocks, used + 2),
+        ring: tag_in(blocks, used + 3),
+        vertex: tag_in(blocks, used + 4),
+    }
+}
+
+fn put_vertex_body<L: Ledger>(
+    store: &mut Store,
+    tags: &BodyTags,
+    point: Point,
+    steps: &mut Steps<L>,
+)
+    requires { AreBodyTags store.old.blocks tags.now }
+    ensures { store.new ≡ record store.old { map = with_body store.old.map tags.now point } }
+{
+    let body = tags.body;
+    let shell = tags.shell;
+    let face = tags.face;
+    let ring = tags.ring;
+    let vertex = tags.vertex;
+    store.put(body, Some(Entity::Body { shell }), steps);
+    store.put(shell, Some(Entity::Shell { body, q: 1 }), steps);
+    store.put(face, Some(Entity::Face { shell, outer: ring }), steps);
+    let bare = Entity::Loop {
+        face,
+        first: None,
+        lone: Some(vertex),
+    };
+    store.put(ring, Some(bare), steps);
+    store.put(vertex, Some(Entity::Vertex { body, point }), steps);
+}

@@ -1,0 +1,82 @@
+ghost use Rattle.std.specs.Prelude.{◌≡◌, IfOk};
+ghost use Rattle.pk_base.specs.Plain.{plain_act, plain_call};
+
+use crate::{Counted, Entity, Lists, MarkList, NoMemory, Refusal, Tag, TagList, Triple};
+use std::alloc::Global;
+
+/// A call on the solids of a partition.
+#[derive(Debug, Drop)]
+pub enum Call {
+    /// Makes a body of one vertex, with its shell, face and loop.
+    Mvfs { at: Triple },
+}
+
+impl Call {
+    /// An equal call.
+    pub fn copy(&self, _alloc: Global) -> Result<Call, NoMemory>
+        ensures { IfOk result (λ c. plain_call c ≡ plain_call self.now) }
+    {
+        match self {
+            Call::Mvfs { at } => Ok(Call::Mvfs { at: *at }),
+        }
+    }
+}
+
+/// What a thread asks of a partition that it holds.
+#[derive(Debug, Drop)]
+pub enum Act {
+    Call(Call),
+    /// Keeps the state as a new mark below the current one.
+    Mark,
+    /// Brings the state back that a mark stands for.
+    Goto(Tag),
+    /// Deletes a mark. Its children become its parent's.
+    Unmark(Tag),
+    /// Lists the live marks.
+    Marks,
+    /// Compares a mark with its parent.
+    Delta(Tag),
+}
+
+impl Act {
+    /// An equal act.
+    pub fn copy(&self, alloc: Global) -> Result<Act, NoMemory>
+        ensures { IfOk result (λ a. plain_act a ≡ plain_act self.now) }
+    {
+        match self {
+            Act::Call(call) => Ok(Act::Call(call.copy(alloc)?)),
+            Act::Mark => Ok(Act::Mark),
+            Act::Goto(m) => Ok(Act::Goto(*m)),
+            Act::Unmark(m) => Ok(Act::Unmark(*m)),
+            Act::Marks => Ok(Act::Marks),
+            Act::Delta(m) => Ok(Act::Delta(*m)),
+        }
+    }
+}
+
+/// What an act that is not refused answers.
+#[derive(Debug, Drop)]
+pub enum Reply {
+    /// The tags taken, in order.
+    Made(TagList),
+    Done,
+    Is(Entity),
+    List(TagList),
+    Counts(Counted),
+    /// How the state reached differs from the state left.
+    Went(Lists),
+    /// The current mark, and the live marks in ascending order.
+    Marks { at: Tag, rows: MarkList },
+    /// How a mark differs from its parent.
+    Delta(Lists),
+}
+
+/// One line of a partition's journal. `thread` is a thread's number, from 1.
+#[derive(Debug, Drop)]
+pub enum Entry {
+    Claimed(u32),
+    Drew { thread: u32, block: u32 },
+    Did { thread: u32, act: Act },
+    Spent { thread: u32, next: u64, act: Act },
+    Released(u32),
+}

@@ -1,0 +1,213 @@
+use crate::*;
+use std::alloc::{AllocError, AllocFailed};
+use std::test::Fail;
+
+#[test]
+fn entities_and_their_parts(rt: HostRuntime) -> Result<(), Fail> {
+    let point = Point { x: 1, y: -2, z: 3 };
+    let vertex = Entity::Vertex {
+        body: Tag(65),
+        point,
+    };
+    let name = Name(*b"colour\0\0\0\0\0\0\0\0\0\0");
+    let cases = [
+        (Entity::Body { shell: Tag(66) }, None, Class::Body),
+        (
+            Entity::Shell {
+                body: Tag(65),
+                q: 1,
+            },
+            Some(Tag(65)),
+            Class::Shell,
+        ),
+        (
+            Entity::Face {
+                shell: Tag(66),
+                outer: Tag(68),
+            },
+            Some(Tag(66)),
+            Class::Face,
+        ),
+        (
+            Entity::Loop {
+                face: Tag(67),
+                first: None,
+                lone: Some(Tag(69)),
+            },
+            Some(Tag(67)),
+            Class::Loop,
+        ),
+        (
+            Entity::Fin {
+                loop_: Tag(68),
+                next: Tag(71),
+                prev: Tag(72),
+                mate: Tag(73),
+                edge: Tag(74),
+                vertex: Tag(69),
+            },
+            Some(Tag(68)),
+            Class::Fin,
+        ),
+        (
+            Entity::Edge {
+                body: Tag(65),
+                fin: Tag(70),
+            },
+            Some(Tag(65)),
+            Class::Edge,
+        ),
+        (vertex, Some(Tag(65)), Class::Vertex),
+        (
+            Entity::Attr {
+                owner: Tag(67),
+                name,
+                value: -9,
+            },
+            Some(Tag(67)),
+            Class::Attr,
+        ),
+    ];
+    for (entity, owner, class) in cases {
+        assert_eq!(rt; entity.owner(), owner, "{class}");
+        assert_eq!(rt; entity.class(), class);
+        assert_eq!(rt; entity.is_same(&vertex), class == Class::Vertex, "{class}");
+    }
+    Ok(())
+}
+
+#[test]
+fn lists_and_copies(rt: HostRuntime) -> Result<(), Fail> {
+    let alloc = rt.alloc();
+    let mut tags = TagList::with_room(alloc, 2)?;
+    tags.push(Tag(65));
+    tags.push(Tag(64));
+    let copy = tags.copy(alloc)?;
+    assert_eq!(rt; copy.as_slice(), [Tag(65), Tag(64)].as_slice());
+    let row = MarkRow {
+        tag: Tag(70),
+        parent: Some(Tag(64)),
+    };
+    let mut marks = MarkList::with_room(alloc, 1)?;
+    marks.push(row);
+    let copy = marks.copy(alloc)?;
+    assert_eq!(rt; copy.as_slice(), [row].as_slice());
+    let at = Triple { x: 1, y: -2, z: 3 };
+    let acts = [
+        (
+            Act::Call(Call::Mvfs { at }),
+            "Call(Mvfs { at: Triple { x: 1, y: -2, z: 3 } })",
+        ),
+        (Act::Mark, "Mark"),
+        (Act::Goto(Tag(64)), "Goto(Tag(64))"),
+        (Act::Unmark(Tag(65)), "Unmark(Tag(65))"),
+        (Act::Marks, "Marks"),
+        (Act::Delta(Tag(66)), "Delta(Tag(66))"),
+    ];
+    for (act, expected) in &acts {
+        let copy = act.copy(alloc)?;
+        assert_eq!(rt; format!(in alloc; "{copy:?}")?.as_str(), *expected);
+    }
+    Ok(())
+}
+
+#[test]
+fn texts(rt: HostRuntime) -> Result<(), Fail> {
+    let (a, b) = (Tag(70), Tag(71));
+    let cases = [
+        (
+            Refusal::NoSuchTag(a),
+            "70 names no live entity of this partition",
+        ),
+        (Refusal::WrongClass(a, Class::Fin), "70 is a fin"),
+        (
+            Refusal::OutOfRange(-1048577),
+            "-1048577 is outside its range",
+        ),
+        (
+            Refusal::NotOneLoop(a, b),
+            "the fins are in the loops 70 and 71",
+        ),
+        (
+            Refusal::SameVertex(a),
+            "the new edge would start and end at 70",
+        ),
+        (Refusal::NotStrut(a), "the fin after 70 is not its mate"),
+        (Refusal::OneLoop(a), "both fins are in the loop 70"),
+        (
+            Refusal::TwoLoops(a, b),
+            "the fin and its mate are in the loops 70 and 71",
+        ),
+        (Refusal::HasRings(a), "the face 70 has more than one loop"),
+        (Refusal::IsOuter(a), "70 is its face's outer loop"),
+        (
+            Refusal::NotOneFace(a, b),
+            "the loops are of the faces 70 and 71",
+        ),
+        (
+            Refusal::NotOneBody(a, b),
+            "the two are of the bodies 70 and 71",
+        ),
+        (Refusal::NotBare(a), "70 has more than it may"),
+        (
+            Refusal::CornerCount(2),
+            "2 corners are fewer than 3 or more than 256",
+        ),
+        (
+            Refusal::BadPolygon(4),
+            "the corner 4 makes no simple polygon",
+        ),
+        (
+            Refusal::FlatSweep,
+            "the vector does not point out of the face",
+        ),
+        (Refusal::NoAttribute(a), "70 has no attribute of that name"),
+        (
+            Refusal::NotOurs(a),
+            "the block of 70 is not this partition's",
+        ),
+        (Refusal::NotAMark(a), "no mark ever had the tag 70"),
+        (Refusal::MarkDeleted(a), "the mark 70 was deleted"),
+        (Refusal::InitialMark, "it is the initial mark"),
+        (
+            Refusal::TagsSpent(99),
+            "the next tag block would be 99, above the last",
+        ),
+        (Refusal::NoPartition(3), "there is no partition 3"),
+        (
+            Refusal::NotLocked(3),
+            "this thread does not hold the partition 3",
+        ),
+        (
+            Refusal::AlreadyLocked(3),
+            "this thread holds the partition 3 already",
+        ),
+        (
+            Refusal::LockOrder(3),
+            "this thread holds the partition 3, above the one asked for",
+        ),
+        (Refusal::NoName(5), "the operand 5 is not bound"),
+        (Refusal::SameFace(a), "both faces are 70"),
+    ];
+    for (refusal, text) in cases {
+        assert_eq!(rt; format!(in rt.alloc(); "{refusal}")?.as_str(), text);
+    }
+    let refused = Fault::Refused(Refusal::InitialMark);
+    assert_eq!(rt;
+        format!(in rt.alloc(); "{refused}")?.as_str(),
+        "refused: it is the initial mark"
+    );
+    let failed = AllocFailed { value: 1u8 };
+    for fault in [
+        Fault::from(AllocError),
+        Fault::from(NoMemory::from(AllocError)),
+        Fault::from(NoMemory::from(failed)),
+    ] {
+        assert_eq!(rt; fault, Fault::NoMemory);
+        assert_eq!(rt;
+            format!(in rt.alloc(); "{fault} {NoMemory}")?.as_str(),
+            "no memory no memory"
+        );
+    }
+    Ok(())
+}

@@ -1,0 +1,232 @@
+-- The order of tags, and the tags of blocks.
+use Rattle.std.proofs.Common.{◌≡◌, ◌≢◌, ℕ, zero, suc, ◌+◌, ◌-◌, ◌*◌, ◌/◌, ◌%◌, ◌<◌, ◌≤◌, ⊎_elim, true, List, [], ◌∷◌, ◌++◌, length, take, drop, get_or, refl, sym, ap, subst, ◌∙◌, arith}
+use Rattle.std.specs.Prelude.{◌==◌, ◌↔◌, nat_lt, map, slice_index, slice_index_or, Contains, IsTrue}
+use Rattle.std.specs.List.{range_with_len, list_all, AllByRecursion}
+use Rattle.std.specs.Cmp.{IsTotalOrder, nat_cmp_total}
+use Rattle.std.specs.FinMap.{IsAntisymmetric, nat_cmp-IsAntisymmetric}
+use Rattle.std.proofs.lemmas.Cmp.{on_total}
+use Rattle.std.proofs.lemmas.List.{length-append, length-drop, get_or-drop, drop-append-le, drop-drop, take-append-le, get_or_append_left, get_or-append_right}
+use Rattle.std.proofs.lemmas.List.Concat.{flat_map-append}
+use Rattle.std.proofs.lemmas.List.FromFn.{length-map-range_with_len, get_or-map-range_with_len}
+use Rattle.std.proofs.lemmas.List.Elements.{All-weaker, All-contains, All-contains_itself, All-from_recursion, recursion_from_All, Contains-append_left, Contains-append_right, Contains-append_cases}
+use Rattle.std.proofs.lemmas.Bool.{cases_lt, eqb-true, eq-eqb, or_cases, or_left, or_right, and_parts, ltb-true}
+use Rattle.pk_base.specs.declared.tag.Tag.{Tag}
+pub use Rattle.pk_model.specs.Tags.{Ascends}
+use Rattle.pk_model.specs.Tags.{tag, block_of, owns, next_tags, tag_at, tags_of, tags_of_block}
+use Rattle.pk_model.specs.Maps.{tag_cmp}
+use Rattle.pk_model.specs.Apart.{NoRepeats}
+use Rattle.pk_model.specs.Laws.{BlocksApart}
+
+-- ---- the order
+
+pub tag_total : IsTotalOrder tag_cmp
+tag_total = on_total (λ (t : Tag). t.0) nat_cmp_total
+
+pub tag_antisymmetric : IsAntisymmetric tag_cmp
+tag_antisymmetric x y e = ap tag (nat_cmp-IsAntisymmetric x.0 y.0 e)
+
+-- ---- lengths, places and parts
+
+pub length-tags_of_block : (b : ℕ) → length (tags_of_block b) ≡ 64
+unfolding tags_of_block
+length-tags_of_block b = length-map-range_with_len tag (64 * b) 64
+
+pub tags_of-cons : (b : ℕ) (bs : List ℕ) → tags_of (b ∷ bs) ≡ tags_of_block b ++ tags_of bs
+unfolding tags_of
+tags_of-cons b bs = refl
+
+pub tags_of-nil : tags_of [] ≡ []
+unfolding tags_of
+tags_of-nil = refl
+
+pub tags_of-append : (bs cs : List ℕ) → tags_of (bs ++ cs) ≡ tags_of bs ++ tags_of cs
+unfolding tags_of
+tags_of-append bs cs = flat_map-append tags_of_block bs cs
+
+pub length-tags_of : (blocks : List ℕ) → length (tags_of blocks) ≡ 64 * length blocks
+length-tags_of [] = ap length tags_of-nil
+length-tags_of (b ∷ bs) =
+    let e = ap length (tags_of-cons b bs) in
+    let f = length-append (tags_of_block b) (tags_of bs) in
+    let g = length-tags_of_block b in
+    let h = length-tags_of bs in
+    omega arith
+
+block_place : (b i : ℕ) (d : Tag) → i < 64 → get_or (tags_of_block b) i d ≡ tag (64 * b + i)
+unfolding tags_of_block
+block_place b i d h = get_or-map-range_with_len tag (64 * b) 64 i (64 * b + i) d h refl
+
+later_quotient : (i : ℕ) → 64 ≤ i → i / 64 ≡ suc ((i - 64) / 64)
+later_quotient i h = omega arith
+
+later_rest : (i : ℕ) → 64 ≤ i → i % 64 ≡ (i - 64) % 64
+later_rest i h = omega arith
+
+-- the tag at a place: the blocks come one after the other
+pub slice_index_or-tags_of : (blocks : List ℕ) (i : ℕ) (d : Tag) → i < 64 * length blocks → slice_index_or (tags_of blocks) i d ≡ tag (64 * slice_index blocks (i / 64) + i % 64)
+slice_index_or-tags_of [] i d h = absurd (omega arith)
+slice_index_or-tags_of (b ∷ bs) i d h =
+    ap (λ l. get_or l i d) (tags_of-cons b bs)
+    ∙ ⊎_elim (λ (l : i < 64).
+    let in' : i < length (tags_of_block b) = omega (arith, length-tags_of_block b) in
+    let q : i / 64 ≡ 0 = omega arith in
+    let r : i % 64 ≡ i = omega arith in
+    get_or_append_left (tags_of_block b) (tags_of bs) d i in'
+    ∙ block_place b i d l
+    ∙ ap tag (sym (rw (q, r) refl)))
+    (λ (g : 64 ≤ i).
+    get_or-append_right (tags_of_block b) (tags_of bs) 64 i d (length-tags_of_block b) g
+    ∙ slice_index_or-tags_of bs (i - 64) d (omega arith)
+    ∙ ap tag (sym (rw (later_quotient i g, later_rest i g) refl)))
+    (cases_lt i 64)
+
+pub tag_at-tags_of : (blocks : List ℕ) (i : ℕ) → i < 64 * length blocks → tag_at (tags_of blocks) i ≡ tag (64 * slice_index blocks (i / 64) + i % 64)
+tag_at-tags_of blocks i h = slice_index_or-tags_of blocks i (tag 0) h
+
+-- ---- what is taken, and what comes next
+
+pub take-more : {X : Type 0} (n k : ℕ) (xs : List X) → take (n + k) xs ≡ take n xs ++ take k (drop n xs)
+take-more zero k xs = let e : 0 + k ≡ k = omega arith in rw e refl
+take-more (suc n) k [] = let e : suc n + k ≡ suc (n + k) = omega arith in rw e (sym (take-nil k))
+  where
+    take-nil : {X : Type 0} (k : ℕ) → take {A = X} k [] ≡ []
+    take-nil zero = refl
+    take-nil (suc k) = refl
+take-more (suc n) k (x ∷ xs) = let e : suc n + k ≡ suc (n + k) = omega arith in rw e (ap (λ l. x ∷ l) (take-more n k xs))
+
+-- once k more are taken, the next tags are those after the next k
+pub next_tags-more : (blocks : List ℕ) (used k : ℕ) → next_tags blocks (used + k) ≡ drop k (next_tags blocks used)
+next_tags-more blocks used k = sym (drop-drop k used (tags_of blocks))
+
+pub take-tags_of-more : (blocks : List ℕ) (used k : ℕ) → take (used + k) (tags_of blocks) ≡ take used (tags_of blocks) ++ take k (next_tags blocks used)
+take-tags_of-more blocks used k = take-more used k (tags_of blocks)
+
+pub length-next_tags : (blocks : List ℕ) (used : ℕ) → length (next_tags blocks used) ≡ 64 * length blocks - used
+length-next_tags blocks used = length-drop used (tags_of blocks) ∙ ap (λ n. n - used) (length-tags_of blocks)
+
+-- the place of a next tag
+pub tag_at-next_tags : (blocks : List ℕ) (used i : ℕ) → tag_at (next_tags blocks used) i ≡ tag_at (tags_of blocks) (used + i)
+tag_at-next_tags blocks used i = get_or-drop used (tags_of blocks) i (tag 0)
+
+-- an appended block changes nothing of what is taken
+pub take-tags_of-append : (bs cs : List ℕ) (used : ℕ) → used ≤ 64 * length bs → take used (tags_of (bs ++ cs)) ≡ take used (tags_of bs)
+take-tags_of-append bs cs used h =
+    let in' : used ≤ length (tags_of bs) = omega (arith, length-tags_of bs) in
+    ap (take used) (tags_of-append bs cs) ∙ take-append-le used (tags_of bs) (tags_of cs) in'
+
+pub next_tags-append : (bs cs : List ℕ) (used : ℕ) → used ≤ 64 * length bs → next_tags (bs ++ cs) used ≡ next_tags bs used ++ tags_of cs
+next_tags-append bs cs used h =
+    let in' : used ≤ length (tags_of bs) = omega (arith, length-tags_of bs) in
+    ap (drop used) (tags_of-append bs cs) ∙ drop-append-le used (tags_of bs) (tags_of cs) in'
+
+-- ---- which tags they are
+
+block_contains : (b : ℕ) (t : Tag) → b ≡ block_of t → Contains (tags_of_block b) t
+block_contains b t e =
+    let in' : t.0 % 64 < 64 = omega arith in
+    let n : 64 * b + t.0 % 64 ≡ t.0 = omega arith in
+    (t.0 % 64, omega (arith, length-tags_of_block b), block_place b (t.0 % 64) t in' ∙ ap tag n)
+
+block_of_contained : (b : ℕ) (t : Tag) → Contains (tags_of_block b) t → b ≡ block_of t
+block_of_contained b t (k, h, e) =
+    let in' : k < 64 = omega (arith, length-tags_of_block b) in
+    let n : 64 * b + k ≡ t.0 = ap (λ (x : Tag). x.0) (sym (block_place b k t in') ∙ e) in
+    omega arith
+
+not_in_nil : {X : Type 0} (x : X) → Contains [] x → ⊥
+not_in_nil x (k, h, e) = omega arith
+
+-- a tag is among those of blocks exactly where its block is one of them
+pub Contains-owns : (blocks : List ℕ) (t : Tag) → Contains (tags_of blocks) t → owns blocks t ≡ true
+Contains-owns [] t h = absurd (not_in_nil t (subst (λ l. Contains l t) tags_of-nil h))
+Contains-owns (b ∷ bs) t h =
+    ⊎_elim (λ (l : Contains (tags_of_block b) t). or_left _ _ (eq-eqb b (block_of t) (block_of_contained b t l)))
+    (λ (r : Contains (tags_of bs) t). or_right _ _ (Contains-owns bs t r))
+    (Contains-append_cases (tags_of_block b) (tags_of bs) t (subst (λ l. Contains l t) (tags_of-cons b bs) h))
+
+pub owns-Contains : (blocks : List ℕ) (t : Tag) → owns blocks t ≡ true → Contains (tags_of blocks) t
+owns-Contains [] t h = absurd (cc)
+owns-Contains (b ∷ bs) t h =
+    subst (λ l. Contains l t) (sym (tags_of-cons b bs))
+    (⊎_elim (λ (l : (b == block_of t) ≡ true). Contains-append_left (tags_of_block b) (tags_of bs) t (block_contains b t (eqb-true b (block_of t) l)))
+    (λ (r : owns bs t ≡ true). Contains-append_right (tags_of_block b) (tags_of bs) t (owns-Contains bs t r))
+    (or_cases _ _ h))
+
+pub Contains_iff_owns : (blocks : List ℕ) (t : Tag) → Contains (tags_of blocks) t ↔ IsTrue (owns blocks t)
+Contains_iff_owns blocks t = (λ h. Contains-owns blocks t h, λ h. owns-Contains blocks t h)
+
+-- ---- no repeats
+
+-- no tag of the one list is in the other
+abbrev pub Disjoint : List Tag → List Tag → Type 0
+Disjoint xs ys = AllByRecursion (λ x. AllByRecursion (λ y. x ≢ y) ys) xs
+
+pub ByRecursion-append : {X : Type 0} (P : X → Type 0) (xs ys : List X) → AllByRecursion P xs → AllByRecursion P ys → AllByRecursion P (xs ++ ys)
+ByRecursion-append P [] ys h k = k
+ByRecursion-append P (x ∷ xs) ys h k = (h.0, ByRecursion-append P xs ys h.1 k)
+
+pub ByRecursion-weaker : {X : Type 0} (P Q : X → Type 0) → ((x : X) → P x → Q x) → (xs : List X) → AllByRecursion P xs → AllByRecursion Q xs
+ByRecursion-weaker P Q f [] h = tt
+ByRecursion-weaker P Q f (x ∷ xs) h = (f x h.0, ByRecursion-weaker P Q f xs h.1)
+
+pub ByRecursion-contains : {X : Type 0} (P : X → Type 0) (xs : List X) → ((x : X) → Contains xs x → P x) → AllByRecursion P xs
+ByRecursion-contains P xs f = recursion_from_All P xs (All-weaker (Contains xs) P f xs (All-contains_itself xs))
+
+pub ByRecursion-at : {X : Type 0} (P : X → Type 0) (xs : List X) (x : X) → AllByRecursion P xs → Contains xs x → P x
+ByRecursion-at P xs x h k = All-contains P xs x (All-from_recursion P xs h) k
+
+pub NoRepeats-append : (xs ys : List Tag) → NoRepeats xs → NoRepeats ys → Disjoint xs ys → NoRepeats (xs ++ ys)
+NoRepeats-append [] ys h k d = k
+NoRepeats-append (x ∷ xs) ys h k d = (ByRecursion-append _ xs ys h.0 d.0, NoRepeats-append xs ys h.1 k d.1)
+
+ByRecursion-take : {X : Type 0} (P : X → Type 0) (n : ℕ) (xs : List X) → AllByRecursion P xs → AllByRecursion P (take n xs)
+ByRecursion-take P zero xs h = tt
+ByRecursion-take P (suc n) [] h = tt
+ByRecursion-take P (suc n) (x ∷ xs) h = (h.0, ByRecursion-take P n xs h.1)
+
+pub NoRepeats-take : (n : ℕ) (xs : List Tag) → NoRepeats xs → NoRepeats (take n xs)
+NoRepeats-take zero xs h = tt
+NoRepeats-take (suc n) [] h = tt
+NoRepeats-take (suc n) (x ∷ xs) h = (ByRecursion-take _ n xs h.0, NoRepeats-take n xs h.1)
+
+later_numbers : (a b n : ℕ) → a < b → AllByRecursion (λ u. tag a ≢ u) (map tag (range_with_len b n))
+later_numbers a b zero h = tt
+later_numbers a b (suc n) h = (λ e. let f : a ≡ b = ap (λ (x : Tag). x.0) e in omega arith, later_numbers a (b + 1) n (omega arith))
+
+numbers_apart : (a n : ℕ) → NoRepeats (map tag (range_with_len a n))
+numbers_apart a zero = tt
+numbers_apart a (suc n) = (later_numbers a (a + 1) n (omega arith), numbers_apart (a + 1) n)
+
+pub NoRepeats-tags_of_block : (b : ℕ) → NoRepeats (tags_of_block b)
+unfolding tags_of_block
+NoRepeats-tags_of_block b = numbers_apart (64 * b) 64
+
+-- a tag of one block is in no other
+pub not_owned : (b : ℕ) (bs : List ℕ) (x : Tag) → AllByRecursion (λ c. b ≢ c) bs → b ≡ block_of x → owns bs x ≡ true → ⊥
+not_owned b [] x h p q = cc
+not_owned b (c ∷ bs) x h p q =
+    ⊎_elim (λ (l : (c == block_of x) ≡ true). h.0 (p ∙ sym (eqb-true c (block_of x) l))) (λ (r : owns bs x ≡ true). not_owned b bs x h.1 p r) (or_cases _ _ q)
+
+-- tags of different blocks are different
+pub Disjoint-tags_of_block : (b : ℕ) (bs : List ℕ) → AllByRecursion (λ c. b ≢ c) bs → Disjoint (tags_of_block b) (tags_of bs)
+Disjoint-tags_of_block b bs h =
+    ByRecursion-contains _ (tags_of_block b) (λ x hx. ByRecursion-contains _ (tags_of bs) (λ y hy e. not_owned b bs x h (block_of_contained b x hx) (Contains-owns bs x (subst (Contains (tags_of bs)) (sym e) hy))))
+
+pub BlocksApart-ascends : (bs : List ℕ) → Ascends bs → BlocksApart bs
+BlocksApart-ascends [] h = tt
+BlocksApart-ascends (b ∷ bs) h = (ByRecursion-weaker _ _ (λ c l e. let k : b ≡ c = e in omega arith) bs h.0, BlocksApart-ascends bs h.1)
+
+pub NoRepeats-blocks_apart : (bs : List ℕ) → BlocksApart bs → NoRepeats (tags_of bs)
+NoRepeats-blocks_apart [] h = subst NoRepeats (sym tags_of-nil) tt
+NoRepeats-blocks_apart (b ∷ bs) h =
+    subst NoRepeats (sym (tags_of-cons b bs)) (NoRepeats-append (tags_of_block b) (tags_of bs) (NoRepeats-tags_of_block b) (NoRepeats-blocks_apart bs h.1) (Disjoint-tags_of_block b bs h.0))
+
+pub NoRepeats-tags_of : (bs : List ℕ) → Ascends bs → NoRepeats (tags_of bs)
+NoRepeats-tags_of bs h = NoRepeats-blocks_apart bs (BlocksApart-ascends bs h)
+
+-- a block above all is drawn
+pub Ascends-push : (bs : List ℕ) (b : ℕ) → Ascends bs → list_all (λ o. nat_lt o b) bs ≡ true → Ascends (bs ++ b ∷ [])
+Ascends-push [] b h k = (tt, tt)
+Ascends-push (c ∷ bs) b h k =
+    let p = and_parts (nat_lt c b) (list_all (λ o. nat_lt o b) bs) k in
+    (ByRecursion-append _ bs (b ∷ []) h.0 (ltb-true c b p.0, tt), Ascends-push bs b h.1 p.1)

@@ -1,0 +1,25 @@
+use Rattle.std.proofs.Common.{◌<◌, ◌++◌, [], ◌∷◌, length, refl, ap, ◌∙◌, arith}
+use Rattle.std.proofs.lemmas.List.{append_assoc}
+use Rattle.pk_base.specs.Plain.{plain_act}
+use Rattle.script_runner.specs.declared.report.Line.{Line}
+use Rattle.script_runner.proofs.Doing.{does_next, next_act, room_left, tells_keeps}
+use Rattle.script_runner.proofs.execute.do_acts.Goals as goal
+
+pub loop-line-preserved : goal.loop-line-preserved
+loop-line-preserved g c =
+    let acts = c.args.acts.now in
+    let k = c.loop-line.line-index in
+    let h = c.loop-line.invariant in
+    let more = h.1.1.0 in
+    let line = c.line-item.result in
+    let act = plain_act c.in-On.act in
+    let less : k < length acts = omega (arith, c.loop-line-test.true) in
+    let next = next_act acts k line c.in-On.act c.in-On.partition c.in-On.operands c.in-On.bind c.requires.each less c.line-item.is c.in-On.is in
+    let told : Line = record { number = line.number; said = c.in_ok-answer.answer } in
+    let old = c.loop-line.partition in
+    let new = c.answer_to.new.partition in
+    let tells = c.in_ok-answer.ensures in
+    let keeps = tells_keeps old new act _ next.built tells in
+    let items = c.in_ok-push.ensures.items ∙ ap (λ ls. ls ++ told ∷ []) h.1.1.1.0 ∙ append_assoc c.args.said.now.items more (told ∷ []) in
+    let does = does_next c.args.partition.now old new acts k line act more told next refl h.1.1.1.1 tells in
+    (keeps.holder ∙ h.0, (room_left old.state new.state (length acts) k keeps less h.1.0, (more ++ told ∷ [], (items, does))))

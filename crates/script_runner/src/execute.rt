@@ -1,0 +1,195 @@
+ghost use Rattle.std.specs.Prelude.{◌≡◌, ℕ, ◌+◌, ◌*◌, ◌<◌, ◌≤◌, [], ◌∷◌, ◌++◌, length, map, Some, IfOk, OnOk};
+ghost use Rattle.std.specs.List.{AllByRecursion};
+ghost use Rattle.pk_base.specs.Plain.{plain_act, plain_entry};
+ghost use Rattle.pk_model.specs.VertexBodies.{vertex_bodies};
+ghost use Rattle.partition.specs.Partition.{Answers};
+ghost use Rattle.script_runner.specs.LegalReport.{LegalReport};
+ghost use Rattle.script_runner.specs.Plain.{plain_line, plain_said};
+ghost use Rattle.script_runner.specs.Reading.{script_of_thread};
+ghost use Rattle.script_runner.specs.Run.{IsActLine, IsBuilt, IsLawful, IsOneThread};
+ghost use Rattle.script_runner.specs.Runs.{Does, HasForm, HasRoom, IsRunOf, SaysOf, Tells, end_line, lock_line, report_of_one};
+
+use crate::{
+    EntryList, Items, Line, LineSaid, Order, PartList, Report, SaidList, Script, ScriptLine,
+};
+use entity_store::Steps;
+use partition::Partition;
+use pk_base::{Act, Entry, Fault, NoMemory, Reply};
+use std::alloc::Global;
+use std::marker::Brand;
+use std::sync::ledger::{Blank, Ledger};
+
+/// Carries out a script of one thread in one partition.
+pub(crate) fn execute(alloc: Global, script: &Script) -> Result<Report, NoMemory>
+    requires { HasForm script.now }
+    ensures lawful { IfOk result IsLawful }
+    ensures legal { IfOk result (LegalReport vertex_bodies script.now) }
+{
+    let (journal, said) = run_thread::<Brand>(alloc, the_thread(script), Blank::new(1))?;
+    report_with(alloc, journal, said)
+}
+
+/// The lines of the script's one thread.
+fn the_thread(script: &Script) -> &[ScriptLine]
+    requires { HasForm script.now }
+    ensures whole { script.now ≡ script_of_thread result.now }
+    ensures thread { IsOneThread result.now }
+{
+    script.threads.as_slice()[0].as_slice()
+}
+
+/// The report of one thread and one partition.
+fn report_with(alloc: Global, journal: Vec<Entry>, said: Vec<Line>) -> Result<Report, NoMemory>
+    ensures { IfOk result (λ r. r ≡ report_of_one (map plain_entry journal.items) (map plain_line said.items)) }
+{
+    let mut threads = Vec::new(alloc);
+    threads.push(SaidList::of(said))?;
+    let mut journals = Vec::new(alloc);
+    journals.push(EntryList::of(journal))?;
+    Ok(Report {
+        n: 1,
+        last: 1,
+        threads: Items::of(threads),
+        journals: Items::of(journals),
+    })
+}
+
+/// Carries out the lines of the thread, and answers the partition's journal and what was said to each line.
+fn run_thread<L: Ledger>(
+    alloc: Global,
+    lines: &[ScriptLine],
+    blank: Blank,
+) -> Result<(Vec<Entry>, Vec<Line>), NoMemory>
+    requires form { IsOneThread lines.now }
+    requires name { blank.name ≡ L.name }
+    requires parts { blank.parts ≡ L.parts }
+    requires some { 0 < blank.parts }
+    ensures { IfOk result (λ r. IsRunOf lines.now (map plain_entry r.0.items) (map plain_line r.1.items)) }
+{
+    let mut steps = Steps::<L>::new(blank);
+    let (first, acts, last) = parts_of(lines);
+    run_acts(alloc, first, acts, last, &mut steps)
+}
+
+/// The number of the thread's first line, its acts, and the number of its last line.
+fn parts_of(lines: &[ScriptLine]) -> (u32, &[ScriptLine], u32)
+    requires { IsOneThread lines.now }
+    ensures whole { lines.now ≡ lock_line result.0 ∷ result.1.now ++ end_line result.2 ∷ [] }
+    ensures few { length result.1.now ≤ 12 }
+    ensures each { AllByRecursion IsActLine result.1.now }
+{
+    let [lock, acts @ .., end] = lines else {
+        unreachable!()
+    };
+    (lock.number, acts, end.number)
+}
+
+/// Locks the partition on line `first`, does the acts, and ends on line `last`.
+fn run_acts<L: Ledger>(
+    alloc: Global,
+    first: u32,
+    acts: &[ScriptLine],
+    last: u32,
+    steps: &mut Steps<L>,
+) -> Result<(Vec<Entry>, Vec<Line>), NoMemory>
+    requires few { length acts.now ≤ 12 }
+    requires each { AllByRecursion IsActLine acts.now }
+    ensures { IfOk result (λ r. IsRunOf (lock_line first ∷ acts.now ++ end_line last ∷ []) (map plain_entry r.0.items) (map plain_line r.1.items)) }
+{
+    let mut partition = Partition::begin(alloc, 1)?;
+    let mut said = Vec::new(alloc);
+    partition.claim(1)?;
+    said.push(Line {
+        number: first,
+        said: LineSaid::Locked,
+    })?;
+    do_acts(alloc, &mut partition, acts, &mut said, steps)?;
+    partition.release();
+    said.push(Line {
+        number: last,
+        said: LineSaid::Ended(the_one_part(alloc)?),
+    })?;
+    Ok((partition.into_journal(), said))
+}
+
+/// The list of partition 1 alone.
+fn the_one_part(alloc: Global) -> Result<PartList, NoMemory>
+    ensures { IfOk result (λ parts. parts ≡ 1 ∷ []) }
+{
+    let mut parts = Vec::new(alloc);
+    parts.push(1)?;
+    Ok(Items::of(parts))
+}
+
+/// Does the acts of these lines, and adds what was said to each.
+fn do_acts<L: Ledger>(
+    alloc: Global,
+    partition: &mut Partition,
+    acts: &[ScriptLine],
+    said: &mut Vec<Line>,
+    steps: &mut Steps<L>,
+) -> Result<(), NoMemory>
+    requires each { AllByRecursion IsActLine acts.now }
+    requires held { partition.old.state.holder ≡ Some 1 }
+    requires room { HasRoom partition.old.state (length acts.now) }
+    ensures does { OnOk result ((more : _) × (said.new.items ≡ said.old.items ++ more) × Does partition.old acts.now (map plain_line more) partition.new) }
+    ensures held { OnOk result (partition.new.state.holder ≡ Some 1) }
+{
+    for line in acts {
+        let Order::On { act, .. } = &line.order else {
+            unreachable!()
+        };
+        let answer = answer_to(alloc, partition, act, steps)?;
+        said.push(Line {
+            number: line.number,
+            said: answer,
+        })?;
+    }
+    Ok(())
+}
+
+/// Does an act, and says its reply or its refusal.
+fn answer_to<L: Ledger>(
+    alloc: Global,
+    partition: &mut Partition,
+    act: &Act,
+    steps: &mut Steps<L>,
+) -> Result<LineSaid, NoMemory>
+    requires built { IsBuilt act.now }
+    requires held { partition.old.state.holder ≡ Some 1 }
+    requires room { HasRoom partition.old.state 1 }
+    ensures { IfOk result (λ said. Tells partition.old (plain_act act.now) (plain_said said) partition.new) }
+{
+    said_of(do_act(alloc, partition, act, steps))
+}
+
+/// Does an act.
+fn do_act<L: Ledger>(
+    alloc: Global,
+    partition: &mut Partition,
+    act: &Act,
+    steps: &mut Steps<L>,
+) -> Result<Reply, Fault>
+    requires built { IsBuilt act.now }
+    requires held { partition.old.state.holder ≡ Some 1 }
+    requires room { HasRoom partition.old.state 1 }
+    ensures { Answers partition.old (plain_act act.now) result partition.new }
+{
+    match act {
+        Act::Call(call) => partition.call(call.copy(alloc)?, steps),
+        Act::Mark => partition.mark(steps),
+        Act::Goto(m) => partition.goto(*m, steps),
+        Act::Unmark(_) | Act::Marks | Act::Delta(_) => unreachable!(),
+    }
+}
+
+/// What is said of an answer, be it a reply or a refusal.
+fn said_of(answer: Result<Reply, Fault>) -> Result<LineSaid, NoMemory>
+    ensures { SaysOf answer result }
+{
+    match answer {
+        Ok(reply) => Ok(LineSaid::Answer(reply)),
+        Err(Fault::Refused(refusal)) => Ok(LineSaid::Refused(refusal)),
+        Err(Fault::NoMemory) => Err(NoMemory),
+    }
+}

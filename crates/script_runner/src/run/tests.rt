@@ -1,0 +1,186 @@
+use super::*;
+use crate::{MemSink, MemSource};
+use pk_base::NoMemory;
+use std::process::Abort;
+use std::test::Fail;
+
+const FIRST: &[u8] =
+    b"session 1 1\nthread\nlock 1\n1 mvfs 0 0 0\n1 mark\n1 mvfs 1 0 0\n1 goto 70\n1 goto 64\nend\n";
+
+const FIRST_REPORT: &[u8] =
+    b"report 1 1\nthread 1\n3 locked\n4 made 65-69\n5 made 70\n6 made 71-75\n7 went fresh - gone 71-75 changed -\n8 went fresh - gone 65-69 changed -\n9 ended 1\npartition 1\nclaimed 1\ndid 1 mvfs 0 0 0\ndid 1 mark\ndid 1 mvfs 1 0 0\ndid 1 goto 70\ndid 1 goto 64\nreleased 1\nend\n";
+
+const THIRTEEN_ACTS: &[u8] =
+    b"session 1 1\nthread\nlock 1\n1 mark\n1 mark\n1 mark\n1 mark\n1 mark\n1 mark\n1 mark\n1 mark\n1 mark\n1 mark\n1 mark\n1 mark\n1 mark\nend\n";
+
+const NOT_BUILT: Cause = Cause::NotBuilt;
+
+/// Runs with the word of the program.
+fn run(alloc: Global, source: &mut MemSource, sink: &mut MemSink) -> Result<Outcome, NoMemory> {
+    run_words(alloc, &["--serial"], source, sink)
+}
+
+fn run_words(
+    alloc: Global,
+    words: &[&str],
+    source: &mut MemSource,
+    sink: &mut MemSink,
+) -> Result<Outcome, NoMemory> {
+    let mut owned = Vec::new(alloc);
+    for word in words {
+        owned.push(String::from_str(alloc, word)?)?;
+    }
+    Ok(run_serial(alloc, owned.as_slice(), source, sink))
+}
+
+/// The status of a run over this input, whose report has to be this text.
+fn status_of(
+    rt: &impl Abort,
+    alloc: Global,
+    input: &[u8],
+    report: &[u8],
+) -> Result<Status, NoMemory> {
+    let mut source = MemSource::new(alloc, input, 4096, &[])?;
+    let mut sink = MemSink::new(alloc, 4096, 4096, &[])?;
+    let outcome = run(alloc, &mut source, &mut sink)?;
+    assert_eq!(rt; sink.as_slice(), report);
+    Ok(outcome.status)
+}
+
+#[test]
+fn runs_the_first_script(rt: HostRuntime) -> Result<(), Fail> {
+    assert_eq!(rt;
+        status_of(&rt, rt.alloc(), FIRST, FIRST_REPORT)?,
+        Status::Done
+    );
+    Ok(())
+}
+
+#[test]
+fn goes_to_the_initial_mark_at_once(rt: HostRuntime) -> Result<(), Fail> {
+    let script = b"session 1 1\nthread\nlock 1\n1 goto 64\nend\n";
+    let report =
+        b"report 1 1\nthread 1\n3 locked\n4 went fresh - gone - changed -\n5 ended 1\npartition 1\nclaimed 1\ndid 1 goto 64\nreleased 1\nend\n";
+    assert_eq!(rt; status_of(&rt, rt.alloc(), script, report)?, Status::Done);
+    Ok(())
+}
+
+#[test]
+fn refuses_and_goes_on(rt: HostRuntime) -> Result<(), Fail> {
+    let script =
+        b"session 1 1\nthread\nlock 1\n1 mvfs 1048577 0 0\n1 goto 128\n1 mvfs 0 0 0\n1 goto 65\nend\n";
+    let report =
+        b"report 1 1\nthread 1\n3 locked\n4 refused 3 OutOfRange 1048577\n5 refused 18 NotOurs 128\n6 made 65-69\n7 refused 19 NotAMark 65\n8 ended 1\npartition 1\nclaimed 1\ndid 1 mvfs 1048577 0 0\ndid 1 goto 128\ndid 1 mvfs 0 0 0\ndid 1 goto 65\nreleased 1\nend\n";
+    assert_eq!(rt;
+        status_of(&rt, rt.alloc(), script, report)?,
+        Status::SomeRefused
+    );
+    Ok(())
+}
+
+#[test]
+fn a_bad_script_writes_nothing(rt: HostRuntime) -> Result<(), Fail> {
+    let thirteen = Status::BadScript {
+        line: 16,
+        cause: NOT_BUILT,
+    };
+    assert_eq!(rt; status_of(&rt, rt.alloc(), THIRTEEN_ACTS, b"")?, thirteen);
+    let empty = Status::BadScript {
+        line: 1,
+        cause: NOT_BUILT,
+    };
+    assert_eq!(rt; status_of(&rt, rt.alloc(), b"", b"")?, empty);
+    Ok(())
+}
+
+#[test]
+fn other_words_read_and_write_nothing(rt: HostRuntime) -> Result<(), Fail> {
+    let alloc = rt.alloc();
+    let none: &[&str] = &[];
+    for words in [none, &["--parallel"], &["--serial", "--serial"], &[""]] {
+        let mut source = MemSource::new(alloc, FIRST, 4096, &[])?;
+        let mut sink = MemSink::new(alloc, 4096, 4096, &[])?;
+        let outcome = run_words(alloc, words, &mut source, &mut sink)?;
+        assert_eq!(rt; outcome.status, Status::BadWords);
+        assert!(rt; outcome.report.is_none());
+        assert_eq!(rt; sink.as_slice(), b"".as_slice());
+        assert_eq!(rt; run(alloc, &mut source, &mut sink)?.status, Status::Done);
+    }
+    Ok(())
+}
+
+#[test]
+fn a_failed_read_ends_the_run(rt: HostRuntime) -> Result<(), Fail> {
+    let alloc = rt.alloc();
+    let mut source = MemSource::new(alloc, FIRST, 4096, &[1])?;
+    let mut sink = MemSink::new(alloc, 4096, 4096, &[])?;
+    let outcome = run(alloc, &mut source, &mut sink)?;
+    assert_eq!(rt; outcome.status, Status::ReadFault);
+    assert!(rt; outcome.report.is_none());
+    assert_eq!(rt; sink.as_slice(), b"".as_slice());
+    Ok(())
+}
+
+#[test]
+fn a_failed_write_leaves_a_front_of_the_report(rt: HostRuntime) -> Result<(), Fail> {
+    let alloc = rt.alloc();
+    let mut source = MemSource::new(alloc, FIRST, 4096, &[])?;
+    let mut sink = MemSink::new(alloc, 4096, 64, &[2])?;
+    let outcome = run(alloc, &mut source, &mut sink)?;
+    assert_eq!(rt; outcome.status, Status::WriteFault);
+    assert!(rt; outcome.report.is_some());
+    assert_eq!(rt; sink.as_slice(), &FIRST_REPORT[..64]);
+    Ok(())
+}
+
+#[test]
+fn a_sink_without_room_takes_a_front_of_the_report(rt: HostRuntime) -> Result<(), Fail> {
+    let alloc = rt.alloc();
+    let mut source = MemSource::new(alloc, FIRST, 4096, &[])?;
+    let mut sink = MemSink::new(alloc, 100, 4096, &[])?;
+    assert_eq!(rt;
+        run(alloc, &mut source, &mut sink)?.status,
+        Status::WriteFault
+    );
+    assert_eq!(rt; sink.as_slice(), &FIRST_REPORT[..100]);
+    Ok(())
+}
+
+#[test]
+fn a_byte_at_a_time_makes_the_same_report(rt: HostRuntime) -> Result<(), Fail> {
+    let alloc = rt.alloc();
+    let mut source = MemSource::new(alloc, FIRST, 1, &[])?;
+    let mut sink = MemSink::new(alloc, 4096, 1, &[])?;
+    assert_eq!(rt; run(alloc, &mut source, &mut sink)?.status, Status::Done);
+    assert_eq!(rt; sink.as_slice(), FIRST_REPORT);
+    Ok(())
+}
+
+#[test]
+fn too_long_an_input_is_refused(rt: HostRuntime) -> Result<(), Fail> {
+    let alloc = rt.alloc();
+    let input = vec![in alloc; b'\n'; 4_194_305]?;
+    let mut source = MemSource::new(alloc, &input, usize::MAX, &[])?;
+    let mut sink = MemSink::new(alloc, 4096, 4096, &[])?;
+    let outcome = run(alloc, &mut source, &mut sink)?;
+    assert_eq!(rt; outcome.status, Status::TooLong);
+    assert_eq!(rt; sink.as_slice(), b"".as_slice());
+    Ok(())
+}
+
+#[test]
+fn statuses_have_their_numbers(rt: HostRuntime) -> Result<(), Fail> {
+    let bad = Status::BadScript {
+        line: 1,
+        cause: NOT_BUILT,
+    };
+    assert_eq!(rt; Status::Done.number(), 0);
+    assert_eq!(rt; Status::SomeRefused.number(), 1);
+    assert_eq!(rt; Status::BadWords.number(), 2);
+    assert_eq!(rt; bad.number(), 3);
+    assert_eq!(rt; Status::ReadFault.number(), 4);
+    assert_eq!(rt; Status::WriteFault.number(), 5);
+    assert_eq!(rt; Status::NoMemory.number(), 6);
+    assert_eq!(rt; Status::TooLong.number(), 7);
+    Ok(())
+}
