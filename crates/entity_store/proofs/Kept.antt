@@ -12,11 +12,10 @@ use Rattle.pk_base.specs.declared.entity.Entity.{Entity}
 use Rattle.pk_base.specs.Entity.{owner_of}
 use Rattle.pk_model.specs.Tags.{tag_at, tags_of, owns, block_of}
 use Rattle.pk_model.specs.Maps.{EntityMap, tag_cmp, with_entity}
-use Rattle.pk_model.proofs.TagLists.{tag_total, Ascends-push, ByRecursion-append}
+use Rattle.pk_model.proofs.TagLists.{tag_total, Ascends-push, ByRecursion-append, same_from_tie}
 use Rattle.entity_store.specs.Store.{map_of, IsHosted, IfHosted, IsKept}
-use Rattle.entity_store.proofs.Slots.{same_from_tie}
 use Rattle.entity_store.proofs.MapOf.{map_of-nil, get-map_of_slot, map_of-written, map_of-block, len-map_of}
-use Rattle.entity_store.proofs.Places.{len-with_entity, had_at}
+use Rattle.entity_store.proofs.Places.{len-with_entity, some_counts}
 
 nothing_there : (t : Tag) (e : Entity) → get (map_of [] []) t ≡ Some e → IsHosted [] t e
 nothing_there t e h = cc (h, ap (λ m. get m t) map_of-nil, get-empty {K = Tag} {X = Entity} tag_cmp t)
@@ -63,7 +62,7 @@ stored_after_write blocks slots live i t to k h place = map_of-written blocks sl
 pub counts_what_is_there : (blocks : List ℕ) (slots : List (Option Entity)) (live i : ℕ) (t : Tag) → IsKept blocks slots live → i < 64 * length blocks → tag_at (tags_of blocks) i ≡ t → cond (is_some (get_or slots i None)) 1 0 ≤ live
 counts_what_is_there blocks slots live i t k h place =
     let there : get (map_of blocks slots) t ≡ get_or slots i None = ap (get (map_of blocks slots)) (sym place) ∙ get-map_of_slot blocks slots k.ascending k.places i h in
-    omega (arith, had_at (map_of blocks slots) t, ap {B = ℕ} (λ o. cond (is_some o) 1 0) there, k.count)
+    omega (arith, some_counts (map_of blocks slots) t, ap {B = ℕ} (λ o. cond (is_some o) 1 0) there, k.count)
 
 -- a write leaves no more entities than slots
 pub fits_after_write : (blocks : List ℕ) (slots : List (Option Entity)) (live i : ℕ) (t : Tag) (to : Option Entity) → IsKept blocks slots live → i < 64 * length blocks → tag_at (tags_of blocks) i ≡ t → live + cond (is_some to) 1 0 ≤ length slots + cond (is_some (get_or slots i None)) 1 0

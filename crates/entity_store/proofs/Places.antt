@@ -11,13 +11,12 @@ use Rattle.pk_base.specs.declared.tag.Tag.{Tag}
 use Rattle.pk_base.specs.declared.entity.Entity.{Entity}
 use Rattle.pk_model.specs.Tags.{tag, tag_at, tags_of, owns, Ascends, block_of}
 use Rattle.pk_model.specs.Maps.{EntityMap, tag_cmp, with_entity}
-use Rattle.pk_model.proofs.TagLists.{tag_total, tag_at-tags_of}
-use Rattle.entity_store.proofs.Slots.{all_at}
+use Rattle.pk_model.proofs.TagLists.{ByRecursion-get_or, tag_total, tag_at-tags_of}
 
 ascending_at : (bs : List ℕ) (i j : ℕ) → Ascends bs → i ≤ j → j < length bs → get_or bs i 0 ≤ get_or bs j 0
 ascending_at [] i j a l h = absurd (omega arith)
 ascending_at (b ∷ bs) zero zero a l h = omega arith
-ascending_at (b ∷ bs) zero (suc j) a l h = let k : b < get_or bs j 0 = all_at (λ c. b < c) bs j 0 (omega arith) a.0 in omega arith
+ascending_at (b ∷ bs) zero (suc j) a l h = let k : b < get_or bs j 0 = ByRecursion-get_or (λ c. b < c) bs j 0 (omega arith) a.0 in omega arith
 ascending_at (b ∷ bs) (suc i) zero a l h = absurd (omega arith)
 ascending_at (b ∷ bs) (suc i) (suc j) a l h = ascending_at bs i j a.1 (omega arith) (omega arith)
 
@@ -55,7 +54,7 @@ len_after_remove true n m h e = omega arith
 len_after_remove false n m h e = omega arith
 
 -- a map with an entity is not empty
-some_counts : (m : EntityMap) (t : Tag) → cond (is_some (get m t)) 1 0 ≤ len m
+pub some_counts : (m : EntityMap) (t : Tag) → cond (is_some (get m t)) 1 0 ≤ len m
 some_counts m t =
     elim (is_some (get m t)) as (λ b. is_some (get m t) ≡ b → cond b 1 0 ≤ len m) [
       | true ↦ λ e. ⊎_elim (λ (z : len m ≡ 0). absurd (none_there m t z e)) (λ (n : 0 < len m). omega arith) (eq-zero-or-pos (len m))
@@ -69,6 +68,3 @@ some_counts m t =
 pub len-with_entity : (m : EntityMap) (t : Tag) (to : Option Entity) → len (with_entity m t to) + cond (is_some (get m t)) 1 0 ≡ len m + cond (is_some to) 1 0
 len-with_entity m t None = len_after_remove (is_some (get m t)) (len m) (len (remove m t)) (some_counts m t) (len-remove tag_total m t)
 len-with_entity m t (Some e) = len_after_insert (is_some (get m t)) (len m) (len (insert m t e)) (len-insert tag_total m t e)
-
-pub had_at : (m : EntityMap) (t : Tag) → cond (is_some (get m t)) 1 0 ≤ len m
-had_at m t = some_counts m t

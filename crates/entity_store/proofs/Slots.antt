@@ -7,30 +7,8 @@ use Rattle.pk_base.specs.declared.tag.Tag.{Tag}
 use Rattle.pk_base.specs.declared.entity.Entity.{Entity}
 use Rattle.pk_model.specs.Maps.{tag_cmp}
 use Rattle.pk_model.specs.Apart.{NoRepeats}
-use Rattle.pk_model.proofs.TagLists.{tag_total, tag_antisymmetric}
-use Rattle.std.proofs.lemmas.Cmp.{tied_itself}
-use Rattle.std.specs.declared.cmp.Ordering.{Ordering}
-use Rattle.std.specs.declared.cmp.Ordering.TheVariants.{Less, Equal, Greater}
-use Rattle.std.specs.Ordering.{is_eq}
+use Rattle.pk_model.proofs.TagLists.{ByRecursion-get_or, same_from_tie, ties_itself, ties_no_other}
 use Rattle.entity_store.specs.Store.{live_entries}
-
--- the test by which a map finds a tag
-pub ties_itself : (t : Tag) → eq_by_cmp tag_cmp t t ≡ true
-ties_itself t = ap is_eq (tied_itself tag_total t)
-
-is_equal : (o : Ordering) → is_eq o ≡ true → o ≡ Equal
-is_equal Less h = cc
-is_equal Equal h = refl
-is_equal Greater h = cc
-
-pub same_from_tie : (t u : Tag) → eq_by_cmp tag_cmp t u ≡ true → t ≡ u
-same_from_tie t u h = tag_antisymmetric t u (is_equal (tag_cmp t u) h)
-
-pub ties_no_other : (t u : Tag) → t ≢ u → eq_by_cmp tag_cmp t u ≡ false
-ties_no_other t u h = elim (eq_by_cmp tag_cmp t u) as (λ b. eq_by_cmp tag_cmp t u ≡ b → b ≡ false) [
-  | true ↦ λ e. absurd (h (same_from_tie t u e))
-  | false ↦ λ e. refl
-] refl
 
 -- a tag of none of the slots is not found
 pub find_missing : (q : Tag) (ts : List Tag) (slots : List (Option Entity)) → AllByRecursion (λ u. q ≢ u) ts → find tag_cmp q (live_entries ts slots) ≡ None
@@ -48,19 +26,13 @@ find_first : (t : Tag) (ts : List Tag) (slot : Option Entity) (slots : List (Opt
 find_first t ts None slots h = find_missing t ts slots h
 find_first t ts (Some e) slots h = ap (λ b. cond b (Some e) (find tag_cmp t (live_entries ts slots))) (ties_itself t)
 
--- what holds of each element holds of the one at a place
-pub all_at : {X : Type 0} (P : X → Type 0) (xs : List X) (i : ℕ) (d : X) → i < length xs → AllByRecursion P xs → P (get_or xs i d)
-all_at P [] i d h k = absurd (omega arith)
-all_at P (x ∷ xs) zero d h k = k.0
-all_at P (x ∷ xs) (suc i) d h k = all_at P xs i d (omega arith) k.1
-
 -- the entity of a slot is found at the slot's tag
 pub find_slot : (ts : List Tag) (slots : List (Option Entity)) (i : ℕ) (d : Tag) → NoRepeats ts → length slots ≡ length ts → i < length ts → find tag_cmp (get_or ts i d) (live_entries ts slots) ≡ get_or slots i None
 find_slot [] slots i d n l h = absurd (omega arith)
 find_slot (t ∷ ts) [] i d n l h = absurd (omega arith)
 find_slot (t ∷ ts) (slot ∷ slots) zero d n l h = find_first t ts slot slots n.0
 find_slot (t ∷ ts) (slot ∷ slots) (suc i) d n l h =
-    let other : get_or ts i d ≢ t = λ e. all_at (λ u. t ≢ u) ts i d (omega arith) n.0 (sym e) in
+    let other : get_or ts i d ≢ t = λ e. ByRecursion-get_or (λ u. t ≢ u) ts i d (omega arith) n.0 (sym e) in
     find_later (get_or ts i d) t ts slot slots other ∙ find_slot ts slots i d n.1 (omega arith) (omega arith)
 
 -- after a write to one slot, its tag is found with what was written, and every other as before
@@ -78,7 +50,7 @@ find_written q (t ∷ ts) (slot ∷ slots) (suc i) to d n l h =
     elim (eq_by_cmp tag_cmp q t) as (λ b. eq_by_cmp tag_cmp q t ≡ b → find tag_cmp q (live_entries (t ∷ ts) (slot ∷ set slots i to)) ≡ cond (eq_by_cmp tag_cmp q (get_or ts i d)) to (find tag_cmp q (live_entries (t ∷ ts) (slot ∷ slots)))) [
       | true ↦ λ e.
           let same = same_from_tie q t e in
-          let other : t ≢ get_or ts i d = all_at (λ u. t ≢ u) ts i d (omega arith) n.0 in
+          let other : t ≢ get_or ts i d = ByRecursion-get_or (λ u. t ≢ u) ts i d (omega arith) n.0 in
           subst (λ x. find tag_cmp x (live_entries (t ∷ ts) (slot ∷ set slots i to)) ≡ cond (eq_by_cmp tag_cmp x (get_or ts i d)) to (find tag_cmp x (live_entries (t ∷ ts) (slot ∷ slots)))) (sym same)
           (find_first t ts slot (set slots i to) n.0 ∙ sym (ap (λ b. cond b to (find tag_cmp t (live_entries (t ∷ ts) (slot ∷ slots)))) (ties_no_other t (get_or ts i d) other) ∙ find_first t ts slot slots n.0))
       | false ↦ λ e.

@@ -1,11 +1,10 @@
 -- What a store holds: its blocks, and a map over their tags.
-use Rattle.std.specs.Prelude.{◌≡◌, ◌≢◌, ℕ, ◌*◌, ◌≤◌, List, [], ◌∷◌, length, Option, None, Some, IsTrue, MatchOption, ⊤, refl}
-use Rattle.std.specs.List.{AllByRecursion}
+use Rattle.std.specs.Prelude.{◌≡◌, ◌≢◌, ℕ, ◌*◌, List, [], ◌∷◌, length, Option, None, Some, IsTrue, MatchOption, ⊤, refl}
 use Rattle.std.specs.FinMap.{get, len, from_entries}
 use Rattle.pk_base.specs.declared.tag.Tag.{Tag}
 use Rattle.pk_base.specs.declared.entity.Entity.{Entity}
 use Rattle.pk_base.specs.Entity.{owner_of}
-use Rattle.pk_model.specs.Tags.{tags_of, owns, Ascends}
+use Rattle.pk_model.specs.Tags.{AreInRange, tags_of, owns, Ascends}
 use Rattle.std.specs.Coded.{Coded, code_by, coded×, coded_list, coded_ℕ}
 use Rattle.pk_model.specs.Maps.{EntityMap}
 use Rattle.pk_model.specs.Codes.{map_code}
@@ -42,6 +41,6 @@ stored blocks slots = record { blocks = blocks; map = map_of blocks slots }
 pub record IsKept (blocks : List ℕ) (slots : List (Option Entity)) (live : ℕ) : Type 0 where
   pub places : length slots ≡ 64 * length blocks
   pub ascending : Ascends blocks
-  pub range : AllByRecursion (λ b. (1 ≤ b) × (b ≤ 262143)) blocks
+  pub range : AreInRange blocks
   pub count : live ≡ len (map_of blocks slots)
   pub hosted : (t : Tag) (e : Entity) → get (map_of blocks slots) t ≡ Some e → IsHosted blocks t e

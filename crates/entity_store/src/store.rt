@@ -1,7 +1,7 @@
 ghost use Rattle.std.specs.Prelude.{◌≡◌, ℕ, ◌+◌, ◌*◌, ◌<◌, ◌≤◌, ◌^◌, ◌↔◌, [], ◌∷◌, ◌++◌, length, replicate, vec_len, vec_capacity, if◌then◌else◌, IsTrue, IsSome, IfSome, OnOk, OnErr, option_copied, nat_lt};
 ghost use Rattle.std.specs.List.{list_all, AllByRecursion};
 ghost use Rattle.std.specs.FinMap as map;
-ghost use Rattle.pk_model.specs.Tags.{Ascends, owns, tags_of, tag_at};
+ghost use Rattle.pk_model.specs.Tags.{Ascends, AreInRange, owns, tags_of, tag_at};
 ghost use Rattle.pk_model.specs.Maps.{EntityMap, with_entity};
 ghost use Rattle.entity_store.specs.Store.{IsHosted, IfHosted};
 
@@ -68,7 +68,7 @@ impl Store {
     pub fn blocks(&self) -> &[u32]
         ensures value { result.now ≡ self.now.blocks }
         ensures ascending { Ascends self.now.blocks }
-        ensures range { AllByRecursion (λ b. (1 ≤ b) × (b ≤ 262143)) self.now.blocks }
+        ensures range { AreInRange self.now.blocks }
         // Each entity stands in an owned block, and so does its owner, which is another tag.
         ensures hosted { (t : Tag) (e : Entity) → map.get self.now.map t ≡ Some e → IsHosted self.now.blocks t e }
     {

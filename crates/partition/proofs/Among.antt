@@ -7,8 +7,8 @@ use Rattle.pk_base.specs.declared.tag.Tag.{Tag}
 use Rattle.pk_base.specs.declared.refusal.Refusal.TheVariants.{NotOurs, MarkDeleted}
 use Rattle.pk_model.specs.Tags.{tag, owns}
 use Rattle.pk_model.specs.State.{Mark}
-use Rattle.pk_model.specs.Step.{live_mark}
-use Rattle.partition.specs.MarkCopy.{mark_of, mark_among}
+use Rattle.pk_model.specs.Step.{live_mark, mark_among}
+use Rattle.partition.specs.MarkCopy.{mark_of}
 use Rattle.partition.specs.declared.marks.MarkCopy.{MarkCopy}
 
 find-marks : (m : Tag) (marks : List MarkCopy) → find (λ (k : Mark). same_tag k.tag m) (map mark_of marks) ≡ option_map mark_of (find (λ (k : MarkCopy). same_tag k.tag m) marks)

@@ -3,37 +3,29 @@ use Rattle.std.proofs.Common.{◌≡◌, ◌≢◌, ℕ, zero, suc, ◌+◌, ◌
 use Rattle.std.specs.List.{AllByRecursion}
 use Rattle.std.proofs.lemmas.List.Elements.{Contains-get_or}
 use Rattle.pk_base.specs.declared.tag.Tag.{Tag}
-use Rattle.pk_model.specs.Tags.{tag, Ascends, owns, next_tags, tag_at, tags_of}
+use Rattle.pk_model.specs.Tags.{tag, Ascends, AreInRange, owns, next_tags, tag_at, tags_of}
 use Rattle.pk_model.specs.Apart.{NoRepeats}
-use Rattle.pk_model.proofs.TagLists.{length-tags_of, NoRepeats-tags_of, Contains-owns, tag_at-next_tags}
+use Rattle.pk_model.proofs.TagLists.{ByRecursion-get_or, length-tags_of, NoRepeats-tags_of, Contains-owns, tag_at-next_tags}
 use Rattle.partition.specs.BodyTags.{AreBodyTags, next_body_tags}
 
-abbrev pub InRange : List ℕ → Type 0
-InRange blocks = AllByRecursion (λ b. (1 ≤ b) × (b ≤ 262143)) blocks
-
-few_above : (low : ℕ) (bs : List ℕ) → AllByRecursion (λ c. low < c) bs → Ascends bs → InRange bs → low ≤ 262143 → length bs + low ≤ 262143
+few_above : (low : ℕ) (bs : List ℕ) → AllByRecursion (λ c. low < c) bs → Ascends bs → AreInRange bs → low ≤ 262143 → length bs + low ≤ 262143
 few_above low [] h a r k = omega arith
 few_above low (b ∷ bs) h a r k = omega (arith, few_above b bs a.0 a.1 r.1 r.0.1, h.0)
 
-above_zero : (bs : List ℕ) → InRange bs → AllByRecursion (λ c. 0 < c) bs
+above_zero : (bs : List ℕ) → AreInRange bs → AllByRecursion (λ c. 0 < c) bs
 above_zero [] r = tt
 above_zero (b ∷ bs) r = (omega (arith, r.0.0), above_zero bs r.1)
 
-pub few_blocks : (bs : List ℕ) → Ascends bs → InRange bs → length bs ≤ 262143
+pub few_blocks : (bs : List ℕ) → Ascends bs → AreInRange bs → length bs ≤ 262143
 few_blocks bs a r = omega (arith, few_above 0 bs (above_zero bs r) a r (omega arith))
 
 pub owns_place : (blocks : List ℕ) (i : ℕ) → i < 64 * length blocks → owns blocks (tag_at (tags_of blocks) i) ≡ true
 owns_place blocks i h = Contains-owns blocks (tag_at (tags_of blocks) i) (Contains-get_or (tags_of blocks) i (tag 0) (omega (arith, length-tags_of blocks)))
 
-all_at : (P : Tag → Type 0) (xs : List Tag) (i : ℕ) (d : Tag) → i < length xs → AllByRecursion P xs → P (get_or xs i d)
-all_at P [] i d h k = absurd (omega arith)
-all_at P (x ∷ xs) zero d h k = k.0
-all_at P (x ∷ xs) (suc i) d h k = all_at P xs i d (omega arith) k.1
-
 apart_at : (ts : List Tag) (i j : ℕ) (d : Tag) → NoRepeats ts → i < j → j < length ts → get_or ts i d ≢ get_or ts j d
 apart_at [] i j d n h k = absurd (omega arith)
 apart_at (t ∷ ts) zero zero d n h k = absurd (omega arith)
-apart_at (t ∷ ts) zero (suc j) d n h k = all_at (λ u. t ≢ u) ts j d (omega arith) n.0
+apart_at (t ∷ ts) zero (suc j) d n h k = ByRecursion-get_or (λ u. t ≢ u) ts j d (omega arith) n.0
 apart_at (t ∷ ts) (suc i) zero d n h k = absurd (omega arith)
 apart_at (t ∷ ts) (suc i) (suc j) d n h k = apart_at ts i j d n.1 (omega arith) (omega arith)
 
@@ -50,10 +42,10 @@ serve_body blocks used a h =
       body = at 0 (omega arith);
       shell = at 1 (omega arith);
       face = at 2 (omega arith);
-      ring = at 3 (omega arith);
+      loop_ = at 3 (omega arith);
       vertex = at 4 (omega arith);
       shell_apart = apart 0 1 (omega arith) (omega arith);
       face_apart = apart 1 2 (omega arith) (omega arith);
-      ring_apart = apart 2 3 (omega arith) (omega arith);
+      loop_apart = apart 2 3 (omega arith) (omega arith);
       vertex_apart = apart 0 4 (omega arith) (omega arith);
     }

@@ -14,8 +14,7 @@ use Rattle.pk_base.specs.declared.entity.Entity.{Entity}
 use Rattle.pk_base.specs.declared.entity.Entity.TheVariants.{Body}
 use Rattle.pk_model.specs.Tags.{tag}
 use Rattle.pk_model.specs.Maps.{tag_cmp}
-use Rattle.pk_model.proofs.TagLists.{tag_total, tag_antisymmetric}
-use Rattle.entity_store.proofs.Slots.{ties_itself, ties_no_other}
+use Rattle.pk_model.proofs.TagLists.{tag_total, tag_antisymmetric, ties_itself, ties_no_other}
 
 -- an entity with the tag, at any place
 some_at : (q : Tag) (ps : List (Tag × Entity)) (i : ℕ) (d : Tag × Entity) → i < length ps → q ≡ (get_or ps i d).0 → is_some (find tag_cmp q ps) ≡ true

@@ -5,5 +5,4 @@ pub mod Restored
 pub mod Found
 pub mod Differs
 pub mod Among
-pub mod Steps
 pub mod Valid

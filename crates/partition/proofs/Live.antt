@@ -5,14 +5,12 @@ use Rattle.std.specs.Ordering.{eq_by_cmp}
 use Rattle.std.specs.FinMap.{get, entries, find, from_sorted, entries-from_sorted, get-from_sorted, same_map}
 use Rattle.std.proofs.lemmas.List.Elements.{filter_map-append}
 use Rattle.std.proofs.lemmas.List.Folds.{list_any_at}
-use Rattle.std.proofs.lemmas.List.FromFn.{get_or-map-range_with_len}
 use Rattle.std.proofs.lemmas.List.{take_more, take_all}
 use Rattle.pk_base.specs.declared.tag.Tag.{Tag}
 use Rattle.pk_base.specs.declared.entity.Entity.{Entity}
 use Rattle.pk_model.specs.Tags.{tag, Ascends, owns, tags_of, tags_of_block}
 use Rattle.pk_model.specs.Maps.{EntityMap, tag_cmp}
-use Rattle.pk_model.proofs.TagLists.{tag_total, tag_antisymmetric, owns-Contains, tags_of-cons, tags_of-nil, tags_of-append, length-tags_of_block}
-use Rattle.entity_store.proofs.Slots.{same_from_tie, ties_itself}
+use Rattle.pk_model.proofs.TagLists.{tag_total, tag_antisymmetric, owns-Contains, tags_of-cons, tags_of-nil, tags_of-append, length-tags_of_block, same_from_tie, ties_itself, block_place}
 use Rattle.partition.specs.Copies.{live_of}
 use Rattle.partition.proofs.Rising.{Rises-tags_of, sorted_live, live_first}
 
@@ -59,10 +57,6 @@ live_of_all blocks m up owned =
     ] refl in
     let same = same_map tag_total tag_antisymmetric (from_sorted es) m (λ q. get-from_sorted tag_cmp es q sorted ∙ find-live_of m q ts ∙ at q) in
     sym (entries-from_sorted tag_cmp es sorted) ∙ ap entries same
-
-block_place : (b i : ℕ) (d : Tag) → i < 64 → get_or (tags_of_block b) i d ≡ tag (64 * b + i)
-unfolding tags_of_block
-block_place b i d h = get_or-map-range_with_len tag (64 * b) 64 i (64 * b + i) d h refl
 
 -- the entity at one more tag of a block
 live_block-more : (m : EntityMap) (b i : ℕ) (o : Option Entity) → i < 64 → get m (tag (64 * b + i)) ≡ o → live_of m (take (i + 1) (tags_of_block b)) ≡ live_of m (take i (tags_of_block b)) ++ live_first o (tag (64 * b + i)) []

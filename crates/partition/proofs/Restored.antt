@@ -12,9 +12,8 @@ use Rattle.pk_base.specs.declared.tag.Tag.{Tag}
 use Rattle.pk_base.specs.declared.entity.Entity.{Entity}
 use Rattle.pk_model.specs.Tags.{owns}
 use Rattle.pk_model.specs.Maps.{EntityMap, tag_cmp, gone_tags}
-use Rattle.pk_model.proofs.TagLists.{tag_total, tag_antisymmetric, ByRecursion-contains}
+use Rattle.pk_model.proofs.TagLists.{tag_total, tag_antisymmetric, ByRecursion-contains, same_from_tie}
 use Rattle.entity_store.specs.Store.{IsHosted}
-use Rattle.entity_store.proofs.Slots.{same_from_tie}
 use Rattle.partition.specs.Copies.{with_all, without_all}
 use Rattle.partition.proofs.Live.{ties_with_one}
 

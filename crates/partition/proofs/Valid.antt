@@ -34,7 +34,7 @@ use Rattle.partition.specs.Partition.{Appends}
 use Rattle.std.specs.Option.{unwrap_or}
 use Rattle.partition.specs.declared.marks.MarkCopy.{MarkCopy}
 use Rattle.partition.proofs.Differs.{each_found}
-use Rattle.partition.proofs.Steps.{step-reached, step-refused, enough_tags, not_short, reached-call, reached-goto}
+use Rattle.pk_model.proofs.Steps.{step-reached, step-refused, enough_tags, not_short, reached-call, reached-goto}
 
 -- the entry's step, from one state to the next
 abbrev pub Leads : PartitionState → Entry → PartitionState → Option (Result Reply Refusal) → Type 0
@@ -48,6 +48,13 @@ valid_after n store new marks marks' at at' used used' holder holder' journal jo
   few = omega (arith, v.few, ap (λ b. length b) same);
   room = λ h. omega (arith, room h, ap length grown, length-append journal (e ∷ []));
 }
+
+-- so it does after an act that leaves the marks and the blocks
+pub valid_done : (n : ℕ) (store new : Stored) (marks : List MarkCopy) (at at' : Tag) (used used' : ℕ) (holder : Option ℕ) (journal journal' : List Entry) (e : Entry) (answer : Option (Result Reply Refusal)) (capacity capacity' : ℕ) →
+    IsValid n store marks at used holder journal capacity → Leads (state_of store marks at used holder) e (state_of new marks at' used' holder) answer → journal' ≡ journal ++ e ∷ [] → new.blocks ≡ store.blocks → length journal + 1 < capacity' → IsValid n new marks at' used' holder journal' capacity'
+valid_done n store new marks at at' used used' holder journal journal' e answer capacity capacity' v leads grown same room =
+    valid_after n store new marks marks at at' used used' holder holder journal journal' e answer capacity capacity'
+    v leads grown same (subst (λ b. AllByRecursion (IsCopy b) marks) (sym same) v.copies) (λ _. room)
 
 -- no more tags are taken than the blocks have
 pub used_within : (n : ℕ) (store : Stored) (marks : List MarkCopy) (at : Tag) (used : ℕ) (holder : Option ℕ) (journal : List Entry) (capacity : ℕ) → IsValid n store marks at used holder journal capacity → used ≤ 64 * length store.blocks

@@ -12,8 +12,8 @@ use Rattle.pk_model.specs.Maps.{diff}
 use Rattle.pk_model.specs.State.{Mark}
 use Rattle.pk_model.specs.Modelling.{Outcome}
 use Rattle.pk_model.specs.VertexBodies.{vertex_step, vertex_cost}
+use Rattle.pk_model.specs.Step.{mark_among}
 use Rattle.entity_store.specs.Store.{Stored}
-use Rattle.partition.specs.MarkCopy.{mark_among}
 
 -- the store has what the mark stands for, and the lists compare it with what the store had
 pub record Went (old : Stored) (marks : List Mark) (m : Tag) (lists : Lists) (new : Stored) : Type 0 where

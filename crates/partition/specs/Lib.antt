@@ -1,6 +1,7 @@
-pub mod BodyTags
-pub mod Copies
-pub mod MarkCopy
-pub mod Goes
+-- In reading order.
 pub mod Partition
+pub mod MarkCopy
+pub mod Copies
+pub mod BodyTags
+pub mod Goes
 pub mod Inside

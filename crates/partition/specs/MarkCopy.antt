@@ -1,15 +1,9 @@
 -- A mark, as it is seen in the copy that is kept of it.
-use Rattle.std.specs.Prelude.{ℕ, List, IsTrue, find, if◌then◌else◌, Result, Err}
+use Rattle.std.specs.Prelude.{ℕ, List, IsTrue}
 use Rattle.std.specs.List.{AllByRecursion}
 use Rattle.std.specs.FinMap.{from_entries, is_sorted}
-use Rattle.pk_base.specs.Entity.{same_tag}
-use Rattle.pk_base.specs.declared.tag.Tag.{Tag}
-use Rattle.pk_base.specs.declared.refusal.Refusal.{Refusal}
-use Rattle.pk_base.specs.declared.refusal.Refusal.TheVariants.{NotOurs}
-use Rattle.pk_model.specs.Tags.{owns}
 use Rattle.pk_model.specs.Maps.{tag_cmp}
 use Rattle.pk_model.specs.State.{Mark}
-use Rattle.pk_model.specs.Step.{live_mark}
 use Rattle.entity_store.specs.Store.{IsHosted}
 use Rattle.partition.specs.declared.marks.MarkCopy.{MarkCopy}
 
@@ -21,7 +15,3 @@ mark_of k = record { tag = k.tag; parent = k.parent; map = from_entries k.entiti
 pub record IsCopy (blocks : List ℕ) (k : MarkCopy) : Type 0 where
   pub sorted : IsTrue (is_sorted tag_cmp k.entities.items)
   pub hosted : AllByRecursion (λ p. IsHosted blocks p.0 p.1) k.entities.items
-
--- the live mark of this tag, or why there is none
-abbrev pub mark_among : List ℕ → List Mark → Tag → Result Mark Refusal
-mark_among blocks marks m = if owns blocks m then live_mark m (find (λ k. same_tag k.tag m) marks) else Err (NotOurs m)

@@ -1,5 +1,6 @@
 -- What contracts see of a partition, and how an entry changes it.
-use Rattle.std.specs.Prelude.{◌≡◌, ℕ, List, [], ◌∷◌, ◌++◌, Option, Some, Result, Ok, Err, unwrap_or, refl}
+use Rattle.std.specs.Prelude.{◌≡◌, ℕ, ◌+◌, ◌*◌, List, [], ◌∷◌, ◌++◌, length, Option, Some, Result, Ok, Err, unwrap_or, refl}
+use Rattle.std.specs.FinMap.{len}
 use Rattle.std.specs.Coded.{Coded, code_by, coded×, coded_ℕ, coded_list}
 use Rattle.pk_base.specs.Plain.{plain_reply}
 use Rattle.pk_base.specs.contracts.act.Entry as entries
@@ -7,12 +8,14 @@ use Rattle.pk_base.specs.declared.act.Act.{Act}
 use Rattle.pk_base.specs.declared.act.Entry.{Entry}
 use Rattle.pk_base.specs.declared.act.Entry.TheVariants.{Did}
 use Rattle.pk_base.specs.declared.act.Reply.{Reply}
+use Rattle.pk_base.specs.declared.tag.Tag.{Tag}
 use Rattle.pk_base.specs.declared.refusal.Refusal.{Refusal}
 use Rattle.pk_base.specs.declared.refusal.Fault.{Fault}
 use Rattle.pk_base.specs.declared.refusal.Fault.TheVariants.{Refused, NoMemory}
 use Rattle.pk_model.specs.Codes.{state_code}
-use Rattle.pk_model.specs.State.{PartitionState}
-use Rattle.pk_model.specs.Step.{step}
+use Rattle.pk_model.specs.Maps.{EntityMap, gone_tags}
+use Rattle.pk_model.specs.State.{Mark, PartitionState}
+use Rattle.pk_model.specs.Step.{step, mark_at}
 use Rattle.pk_model.specs.VertexBodies.{vertex_bodies}
 
 pub record PartitionView : Type 0 where
@@ -39,3 +42,12 @@ abbrev pub Answers : PartitionView → Act → Result Reply Fault → PartitionV
 Answers old a (Ok r) new = Appends old (Did (holder_of old) a) (Some (Ok (plain_reply r))) new
 Answers old a (Err (Refused e)) new = Appends old (Did (holder_of old) a) (Some (Err e)) new
 Answers old a (Err NoMemory) new = new ≡ old
+
+-- none for a refusal; else one for each slot of the blocks, three for each entity of the mark, one for each tag gone
+abbrev pub going_cost : List ℕ → EntityMap → Result Mark Refusal → ℕ
+going_cost blocks now (Ok k) = 64 * length blocks + 3 * len k.map + length (gone_tags now k.map)
+going_cost blocks now (Err e) = 0
+
+-- how many steps a goto takes at most
+abbrev pub goto_cost : PartitionState → Tag → ℕ
+goto_cost s m = going_cost s.blocks s.now (mark_at s m)

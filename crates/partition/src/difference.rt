@@ -1,4 +1,4 @@
-ghost use Rattle.std.specs.Prelude.{◌≡◌, ◌≤◌, ◌++◌, IfOk, IsTrue, Some, filter, is_none, is_some, length, map};
+ghost use Rattle.std.specs.Prelude.{◌≡◌, ◌+◌, ◌*◌, ◌≤◌, ◌++◌, IfOk, IsTrue, Some, filter, is_none, is_some, length, map};
 ghost use Rattle.std.specs.FinMap.{from_entries, get, is_sorted, find};
 ghost use Rattle.pk_base.specs.Plain.{plain_lists};
 ghost use Rattle.pk_model.specs.Maps.{diff, differ, tag_cmp};
@@ -10,6 +10,7 @@ use std::alloc::Global;
 use std::sync::ledger::Ledger;
 
 /// How the entities of a store differ from those that it would have after going to others, which ascend by their tags.
+/// At most one step for each slot of the store, and two for each of the others.
 pub(crate) fn difference<L: Ledger>(
     alloc: Global,
     store: &Store,
@@ -17,7 +18,8 @@ pub(crate) fn difference<L: Ledger>(
     steps: &mut Steps<L>,
 ) -> Result<Lists, NoMemory>
     requires { IsTrue (is_sorted tag_cmp to.now) }
-    ensures { IfOk result (λ lists. plain_lists lists ≡ diff store.now.map (from_entries to.now)) }
+    ensures value { IfOk result (λ lists. plain_lists lists ≡ diff store.now.map (from_entries to.now)) }
+    ensures cost { steps.new ≤ steps.old + 64 * length store.now.blocks + 2 * length to.now }
 {
     let from = copy_entities(alloc, store, steps)?;
     let mut fresh = TagList::with_room(alloc, to.len())?;
@@ -33,7 +35,7 @@ pub(crate) fn difference<L: Ledger>(
     })
 }
 
-/// Lists those of the other entities whose tags the store lacks.
+/// Lists those of the other entities whose tags the store lacks. One step for each.
 fn list_fresh<L: Ledger>(
     store: &Store,
     to: &[(Tag, Entity)],
@@ -41,7 +43,8 @@ fn list_fresh<L: Ledger>(
     steps: &mut Steps<L>,
 )
     requires { length to.now ≤ fresh.old.spare }
-    ensures { fresh.new.items ≡ fresh.old.items ++ filter (λ t. is_none (get store.now.map t)) (map (λ p. p.0) to.now) }
+    ensures value { fresh.new.items ≡ fresh.old.items ++ filter (λ t. is_none (get store.now.map t)) (map (λ p. p.0) to.now) }
+    ensures cost { steps.new ≡ steps.old + length to.now }
 {
     for (tag, _) in to {
         if store.get(*tag, steps).is_none() {
@@ -63,7 +66,7 @@ fn list_gone(from: &[(Tag, Entity)], to: &[(Tag, Entity)], gone: &mut TagList)
     }
 }
 
-/// Lists those of the other entities that differ from the store's under the same tag.
+/// Lists those of the other entities that differ from the store's under the same tag. One step for each.
 fn list_changed<L: Ledger>(
     store: &Store,
     to: &[(Tag, Entity)],
@@ -71,7 +74,8 @@ fn list_changed<L: Ledger>(
     steps: &mut Steps<L>,
 )
     requires { length to.now ≤ changed.old.spare }
-    ensures { changed.new.items ≡ changed.old.items ++ map (λ p. p.0) (filter (λ p. differ (get store.now.map p.0) (Some p.1)) to.now) }
+    ensures value { changed.new.items ≡ changed.old.items ++ map (λ p. p.0) (filter (λ p. differ (get store.now.map p.0) (Some p.1)) to.now) }
+    ensures cost { steps.new ≡ steps.old + length to.now }
 {
     for (tag, entity) in to {
         if let Some(other) = store.get(*tag, steps) {

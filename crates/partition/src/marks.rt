@@ -2,7 +2,8 @@ ghost use Rattle.std.specs.Prelude.{◌≡◌, true, false, IfOk, IfErr, find, m
 ghost use Rattle.std.specs.List.{AllByRecursion};
 ghost use Rattle.pk_base.specs.Entity.{same_tag};
 ghost use Rattle.pk_base.specs.declared.refusal.Refusal.TheVariants as refusal;
-ghost use Rattle.partition.specs.MarkCopy.{IsCopy, mark_among, mark_of};
+ghost use Rattle.pk_model.specs.Step.{mark_among};
+ghost use Rattle.partition.specs.MarkCopy.{IsCopy, mark_of};
 
 use entity_store::Store;
 use pk_base::{Entity, Refusal, Tag};

@@ -1,4 +1,4 @@
-ghost use Rattle.std.specs.Prelude.{◌≡◌, ◌<◌, ◌≤◌, [], None, IsSome, IfOk, OnOk, OnErr, map};
+ghost use Rattle.std.specs.Prelude.{◌≡◌, ◌+◌, ◌*◌, ◌<◌, ◌≤◌, [], None, IsSome, IfOk, OnOk, OnErr, length, map};
 ghost use Rattle.pk_base.specs.Plain.{plain_call, plain_entry};
 ghost use Rattle.pk_base.specs.declared.act.Act.TheVariants as act;
 ghost use Rattle.pk_base.specs.declared.act.Entry.TheVariants as entry;
@@ -7,7 +7,7 @@ ghost use Rattle.pk_model.specs.State.{opening};
 ghost use Rattle.pk_model.specs.Step.{short};
 ghost use Rattle.pk_model.specs.Replay.{replay};
 ghost use Rattle.pk_model.specs.VertexBodies.{vertex_bodies};
-ghost use Rattle.partition.specs.Partition.{Appends, Answers, holder_of};
+ghost use Rattle.partition.specs.Partition.{Appends, Answers, goto_cost, holder_of};
 
 use crate::copies::copy_entities;
 use crate::goes::go;
@@ -167,11 +167,12 @@ impl Partition {
     }
 
     /// Carries a call out. Where it is refused the journal has one entry more, and all else is as it was; without memory
-    /// nothing changes.
+    /// nothing changes. At most one step for each tag that it takes.
     pub fn call<L: Ledger>(&mut self, call: Call, steps: &mut Steps<L>) -> Result<Reply, Fault>
         requires held { IsSome self.old.state.holder }
         requires enough { short vertex_bodies self.old.state (act.Call (plain_call call)) ≡ 0 }
-        ensures { Answers self.old (act.Call (plain_call call)) result self.new }
+        ensures answers { Answers self.old (act.Call (plain_call call)) result self.new }
+        ensures cost { steps.new ≤ steps.old + vertex_bodies.cost self.old.state.now (plain_call call) }
     {
         let thread = self.holder.unwrap();
         self.journal.reserve(2)?;
@@ -192,11 +193,12 @@ impl Partition {
     }
 
     /// Keeps the state as a new mark with the next tag, below the current mark, and makes it the current one. It never
-    /// refuses; without memory nothing changes.
+    /// refuses; without memory nothing changes. At most one step for each slot of its blocks.
     pub fn mark<L: Ledger>(&mut self, steps: &mut Steps<L>) -> Result<Reply, Fault>
         requires held { IsSome self.old.state.holder }
         requires enough { 0 < spare_of self.old.state.blocks self.old.state.used }
-        ensures { Answers self.old act.Mark result self.new }
+        ensures answers { Answers self.old act.Mark result self.new }
+        ensures cost { steps.new ≤ steps.old + 64 * length self.old.state.blocks }
     {
         let thread = self.holder.unwrap();
         self.journal.reserve(2)?;
@@ -222,10 +224,12 @@ impl Partition {
 
     /// Brings the state back that the mark m stands for, and makes m the current mark. Refuses where m's block is not
     /// owned, else where no mark ever had m, else where m is not live; then the journal has one entry more, and all else is
-    /// as it was. Without memory nothing changes.
+    /// as it was. Without memory nothing changes. At most one step for each slot of its blocks, three for each entity of
+    /// the mark, and one for each tag that is gone; none where it refuses.
     pub fn goto<L: Ledger>(&mut self, m: Tag, steps: &mut Steps<L>) -> Result<Reply, Fault>
         requires { IsSome self.old.state.holder }
-        ensures { Answers self.old (act.Goto m) result self.new }
+        ensures answers { Answers self.old (act.Goto m) result self.new }
+        ensures cost { steps.new ≤ steps.old + goto_cost self.old.state m }
     {
         let thread = self.holder.unwrap();
         self.journal.reserve(2)?;

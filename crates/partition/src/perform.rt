@@ -11,7 +11,7 @@ use std::alloc::Global;
 use std::sync::ledger::Ledger;
 
 /// Carries a call out on the store, with the next tags, and answers how many it took. A refusal or want of memory leaves
-/// the store.
+/// the store. At most one step for each tag that it takes.
 pub(crate) fn perform<L: Ledger>(
     alloc: Global,
     store: &mut Store,
@@ -20,7 +20,8 @@ pub(crate) fn perform<L: Ledger>(
     steps: &mut Steps<L>,
 ) -> Result<(Reply, u64), Fault>
     requires { used + vertex_cost store.old.map (plain_call call.now) ≤ 64 * length store.old.blocks }
-    ensures { Performs store.old used (plain_call call.now) result store.new }
+    ensures performs { Performs store.old used (plain_call call.now) result store.new }
+    ensures cost { steps.new ≤ steps.old + vertex_cost store.old.map (plain_call call.now) }
 {
     match call {
         Call::Mvfs { at } => mvfs(alloc, store, used, *at, steps),
@@ -35,7 +36,8 @@ fn mvfs<L: Ledger>(
     steps: &mut Steps<L>,
 ) -> Result<(Reply, u64), Fault>
     requires { used + mvfs_cost (first_outside at) ≤ 64 * length store.old.blocks }
-    ensures { Performs store.old used (Mvfs at) result store.new }
+    ensures performs { Performs store.old used (Mvfs at) result store.new }
+    ensures cost { steps.new ≤ steps.old + mvfs_cost (first_outside at) }
 {
     if let Some(v) = outside(at) {
         return Err(Fault::Refused(Refusal::OutOfRange(v)));

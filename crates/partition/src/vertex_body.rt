@@ -1,6 +1,6 @@
 ghost use Rattle.std.specs.Prelude.{◌≡◌, ◌+◌, ◌*◌, ◌≤◌, ◌++◌, not, length, take};
 ghost use Rattle.std.specs.List.{AllByRecursion};
-ghost use Rattle.pk_model.specs.Tags.{Ascends, next_tags};
+ghost use Rattle.pk_model.specs.Tags.{AreInRange, Ascends, next_tags};
 ghost use Rattle.pk_model.specs.VertexBodies.{is_coordinate, first_outside, mvfs};
 ghost use Rattle.partition.specs.BodyTags.{AreBodyTags, next_body_tags, with_body};
 
@@ -45,7 +45,7 @@ fn point_of(at: Triple) -> Point
     }
 }
 
-/// Makes a vertex body of the next five tags, and lists them.
+/// Makes a vertex body of the next five tags, and lists them. Five steps.
 pub(crate) fn make_vertex_body<L: Ledger>(
     store: &mut Store,
     used: u64,
@@ -58,6 +58,7 @@ pub(crate) fn make_vertex_body<L: Ledger>(
     requires inside { first_outside at ≡ None }
     ensures map { store.new ≡ record store.old { map = (mvfs store.old.map at (next_tags store.old.blocks used)).map } }
     ensures made { made.new.items ≡ made.old.items ++ take 5 (next_tags store.old.blocks used) }
+    ensures cost { steps.new ≡ steps.old + 5 }
 {
     list_next(store.blocks(), used, 5, made);
     let tags = body_tags(store.blocks(), used);
@@ -70,13 +71,13 @@ pub(crate) struct BodyTags {
     pub body: Tag,
     pub shell: Tag,
     pub face: Tag,
-    pub ring: Tag,
+    pub loop_: Tag,
     pub vertex: Tag,
 }
 
 fn body_tags(blocks: &[u32], used: u64) -> BodyTags
     requires room { used + 5 ≤ 64 * length blocks.now }
-    requires range { AllByRecursion (λ b. (1 ≤ b) × (b ≤ 262143)) blocks.now }
+    requires range { AreInRange blocks.now }
     requires ascending { Ascends blocks.now }
     ensures { result ≡ next_body_tags blocks.now used }
 {
@@ -84,7 +85,7 @@ fn body_tags(blocks: &[u32], used: u64) -> BodyTags
         body: tag_in(blocks, used),
         shell: tag_in(blocks, used + 1),
         face: tag_in(blocks, used + 2),
-        ring: tag_in(blocks, used + 3),
+        loop_: tag_in(blocks, used + 3),
         vertex: tag_in(blocks, used + 4),
     }
 }
@@ -96,21 +97,29 @@ fn put_vertex_body<L: Ledger>(
     steps: &mut Steps<L>,
 )
     requires { AreBodyTags store.old.blocks tags.now }
-    ensures { store.new ≡ record store.old { map = with_body store.old.map tags.now point } }
+    ensures value { store.new ≡ record store.old { map = with_body store.old.map tags.now point } }
+    ensures cost { steps.new ≡ steps.old + 5 }
 {
     let body = tags.body;
     let shell = tags.shell;
     let face = tags.face;
-    let ring = tags.ring;
+    let loop_ = tags.loop_;
     let vertex = tags.vertex;
     store.put(body, Some(Entity::Body { shell }), steps);
     store.put(shell, Some(Entity::Shell { body, q: 1 }), steps);
-    store.put(face, Some(Entity::Face { shell, outer: ring }), steps);
+    store.put(
+        face,
+        Some(Entity::Face {
+            shell,
+            outer: loop_,
+        }),
+        steps,
+    );
     let bare = Entity::Loop {
         face,
         first: None,
         lone: Some(vertex),
     };
-    store.put(ring, Some(bare), steps);
+    store.put(loop_, Some(bare), steps);
     store.put(vertex, Some(Entity::Vertex { body, point }), steps);
 }

@@ -7,12 +7,14 @@ use std::alloc::Global;
 /// A call on the solids of a partition.
 #[derive(Debug, Drop)]
 pub enum Call {
-    /// Makes a body of one vertex, with its shell, face and loop.
+    /// Makes a body of one vertex, with its shell, face and loop (mvfs; Mäntylä, An Introduction to Solid Modeling, 1988).
+    /// Each coordinate is from -1,048,576 to 1,048,576; else it is refused `OutOfRange` with the first of x, y and z that
+    /// is not.
     Mvfs { at: Triple },
 }
 
 impl Call {
-    /// An equal call.
+    /// An equal call, but for spare room in its lists. `NoMemory` comes only where an allocation fails.
     pub fn copy(&self, _alloc: Global) -> Result<Call, NoMemory>
         ensures { IfOk result (λ c. plain_call c ≡ plain_call self.now) }
     {
@@ -25,6 +27,7 @@ impl Call {
 /// What a thread asks of a partition that it holds.
 #[derive(Debug, Drop)]
 pub enum Act {
+    /// Does a call on the solids.
     Call(Call),
     /// Keeps the state as a new mark below the current one.
     Mark,
@@ -39,7 +42,7 @@ pub enum Act {
 }
 
 impl Act {
-    /// An equal act.
+    /// An equal act, but for spare room in its lists. `NoMemory` comes only where an allocation fails.
     pub fn copy(&self, alloc: Global) -> Result<Act, NoMemory>
         ensures { IfOk result (λ a. plain_act a ≡ plain_act self.now) }
     {
@@ -59,13 +62,17 @@ impl Act {
 pub enum Reply {
     /// The tags taken, in order.
     Made(TagList),
+    /// The act was done.
     Done,
+    /// The entity asked for.
     Is(Entity),
+    /// The tags asked for.
     List(TagList),
+    /// How many parts a body has, and its shell's q.
     Counts(Counted),
     /// How the state reached differs from the state left.
     Went(Lists),
-    /// The current mark, and the live marks in ascending order.
+    /// The current mark, and the live marks in the order in which they were made.
     Marks { at: Tag, rows: MarkList },
     /// How a mark differs from its parent.
     Delta(Lists),
@@ -74,9 +81,14 @@ pub enum Reply {
 /// One line of a partition's journal. `thread` is a thread's number, from 1.
 #[derive(Debug, Drop)]
 pub enum Entry {
+    /// The thread took hold of the partition.
     Claimed(u32),
+    /// The thread drew the tag block for the partition.
     Drew { thread: u32, block: u32 },
+    /// The thread did the act, or was refused it by the partition.
     Did { thread: u32, act: Act },
+    /// The thread wanted more tags for the act than were left, and found the next block `next` above the last.
     Spent { thread: u32, next: u64, act: Act },
+    /// The thread let the partition go.
     Released(u32),
 }

@@ -1,4 +1,4 @@
-ghost use Rattle.std.specs.Prelude.{◌≡◌, Some};
+ghost use Rattle.std.specs.Prelude.{◌≡◌, ◌↔◌, Some, IsTrue};
 ghost use Rattle.pk_base.specs.Entity.{class_of, owner_of, same_entity, class_word};
 
 use crate::Tag;
@@ -34,7 +34,7 @@ impl fmt::Display for Class {
     }
 }
 
-/// A point of the model, in its units of length.
+/// A point of the model, in its units of length. Calls make points whose coordinates are from -1,048,576 to 1,048,576.
 #[derive(Clone, Copy, Debug, PartialEq, Eq)]
 pub struct Point {
     pub x: i32,
@@ -50,13 +50,15 @@ pub struct Triple {
     pub z: i64,
 }
 
-/// An attribute's name, of 1 to 16 bytes, padded with zeros.
+/// An attribute's name, of 1 to 16 bytes, padded with zeros. It may have any bytes, and need not be UTF-8; it prints up
+/// to its first zero.
 #[derive(Clone, Copy, Debug, PartialEq, Eq)]
 pub struct Name(pub [u8; 16]);
 
-/// What a tag stands for. A fin is a half-edge: it starts at its `vertex`, and `next` and `prev` are its
-/// neighbours in its loop. An edge names the lesser of its two fins, a loop its least fin, or its lone vertex
-/// where it has no fins. The shell's `q` stands for s - h in `v - e + f = 2 (s - h) + r`.
+/// What a tag stands for, in a half-edge structure (Mäntylä, An Introduction to Solid Modeling, 1988). A fin is a
+/// half-edge: it starts at its `vertex`, and `next` and `prev` are its neighbours in its loop. An edge names the lesser
+/// of its two fins, a loop its least fin, or its lone vertex where it has no fins. The shell's `q` stands for s - h in
+/// `v - e + f = 2 (s - h) + r`.
 #[derive(Clone, Copy, Debug, PartialEq, Eq)]
 pub enum Entity {
     Body {
@@ -131,9 +133,10 @@ impl Entity {
         }
     }
 
-    /// Whether both have the same class and the same fields.
+    /// Whether both are equal: of the same class, with the same fields.
     pub fn is_same(&self, other: &Entity) -> bool
-        ensures { result ≡ same_entity self.now other.now }
+        ensures value { result ≡ same_entity self.now other.now }
+        ensures same { IsTrue result ↔ (self.now ≡ other.now) }
     {
         *self == *other
     }

@@ -2,76 +2,79 @@ use crate::*;
 use std::alloc::{AllocError, AllocFailed};
 use std::test::Fail;
 
+const VERTEX: Entity = Entity::Vertex {
+    body: Tag(65),
+    point: Point { x: 1, y: -2, z: 3 },
+};
+
+const NAME: Name = Name(*b"colour\0\0\0\0\0\0\0\0\0\0");
+
+/// An entity of each class, what it is part of, and its class.
+const ENTITIES: [(Entity, Option<Tag>, Class); 8] = [
+    (Entity::Body { shell: Tag(66) }, None, Class::Body),
+    (
+        Entity::Shell {
+            body: Tag(65),
+            q: 1,
+        },
+        Some(Tag(65)),
+        Class::Shell,
+    ),
+    (
+        Entity::Face {
+            shell: Tag(66),
+            outer: Tag(68),
+        },
+        Some(Tag(66)),
+        Class::Face,
+    ),
+    (
+        Entity::Loop {
+            face: Tag(67),
+            first: None,
+            lone: Some(Tag(69)),
+        },
+        Some(Tag(67)),
+        Class::Loop,
+    ),
+    (
+        Entity::Fin {
+            loop_: Tag(68),
+            next: Tag(71),
+            prev: Tag(72),
+            mate: Tag(73),
+            edge: Tag(74),
+            vertex: Tag(69),
+        },
+        Some(Tag(68)),
+        Class::Fin,
+    ),
+    (
+        Entity::Edge {
+            body: Tag(65),
+            fin: Tag(70),
+        },
+        Some(Tag(65)),
+        Class::Edge,
+    ),
+    (VERTEX, Some(Tag(65)), Class::Vertex),
+    (
+        Entity::Attr {
+            owner: Tag(67),
+            name: NAME,
+            value: -9,
+        },
+        Some(Tag(67)),
+        Class::Attr,
+    ),
+];
+
 #[test]
 fn entities_and_their_parts(rt: HostRuntime) -> Result<(), Fail> {
-    let point = Point { x: 1, y: -2, z: 3 };
-    let vertex = Entity::Vertex {
-        body: Tag(65),
-        point,
-    };
-    let name = Name(*b"colour\0\0\0\0\0\0\0\0\0\0");
-    let cases = [
-        (Entity::Body { shell: Tag(66) }, None, Class::Body),
-        (
-            Entity::Shell {
-                body: Tag(65),
-                q: 1,
-            },
-            Some(Tag(65)),
-            Class::Shell,
-        ),
-        (
-            Entity::Face {
-                shell: Tag(66),
-                outer: Tag(68),
-            },
-            Some(Tag(66)),
-            Class::Face,
-        ),
-        (
-            Entity::Loop {
-                face: Tag(67),
-                first: None,
-                lone: Some(Tag(69)),
-            },
-            Some(Tag(67)),
-            Class::Loop,
-        ),
-        (
-            Entity::Fin {
-                loop_: Tag(68),
-                next: Tag(71),
-                prev: Tag(72),
-                mate: Tag(73),
-                edge: Tag(74),
-                vertex: Tag(69),
-            },
-            Some(Tag(68)),
-            Class::Fin,
-        ),
-        (
-            Entity::Edge {
-                body: Tag(65),
-                fin: Tag(70),
-            },
-            Some(Tag(65)),
-            Class::Edge,
-        ),
-        (vertex, Some(Tag(65)), Class::Vertex),
-        (
-            Entity::Attr {
-                owner: Tag(67),
-                name,
-                value: -9,
-            },
-            Some(Tag(67)),
-            Class::Attr,
-        ),
-    ];
-    for (entity, owner, class) in cases {
+    for (entity, owner, class) in ENTITIES {
         assert_eq!(rt; entity.owner(), owner, "{class}");
         assert_eq!(rt; entity.class(), class);
-        assert_eq!(rt; entity.is_same(&vertex), class == Class::Vertex, "{class}");
+        assert_eq!(rt; entity.is_same(&VERTEX), class == Class::Vertex, "{class}");
     }
     Ok(())
 }
@@ -111,87 +114,102 @@ fn lists_and_copies(rt: HostRuntime) -> Result<(), Fail> {
     Ok(())
 }
 
+/// Each refusal, and its text.
+const REFUSALS: [(Refusal, &str); 28] = [
+    (
+        Refusal::NoSuchTag(Tag(70)),
+        "70 names no live entity of this partition",
+    ),
+    (Refusal::WrongClass(Tag(70), Class::Fin), "70 is a fin"),
+    (
+        Refusal::OutOfRange(-1048577),
+        "-1048577 is outside its range",
+    ),
+    (
+        Refusal::NotOneLoop(Tag(70), Tag(71)),
+        "the fins are in the loops 70 and 71",
+    ),
+    (
+        Refusal::SameVertex(Tag(70)),
+        "the new edge would start and end at 70",
+    ),
+    (
+        Refusal::NotStrut(Tag(70)),
+        "the fin after 70 is not its mate",
+    ),
+    (Refusal::OneLoop(Tag(70)), "both fins are in the loop 70"),
+    (
+        Refusal::TwoLoops(Tag(70), Tag(71)),
+        "the fin and its mate are in the loops 70 and 71",
+    ),
+    (
+        Refusal::HasRings(Tag(70)),
+        "the face 70 has more than one loop",
+    ),
+    (Refusal::IsOuter(Tag(70)), "70 is its face's outer loop"),
+    (
+        Refusal::NotOneFace(Tag(70), Tag(71)),
+        "the loops are of the faces 70 and 71",
+    ),
+    (
+        Refusal::NotOneBody(Tag(70), Tag(71)),
+        "the two are of the bodies 70 and 71",
+    ),
+    (Refusal::NotBare(Tag(70)), "70 has more than it may"),
+    (
+        Refusal::CornerCount(2),
+        "2 corners are fewer than 3 or more than 256",
+    ),
+    (
+        Refusal::BadPolygon(4),
+        "the corner 4 makes no simple polygon",
+    ),
+    (
+        Refusal::FlatSweep,
+        "the vector does not point out of the face",
+    ),
+    (
+        Refusal::NoAttribute(Tag(70)),
+        "70 has no attribute of that name",
+    ),
+    (
+        Refusal::NotOurs(Tag(70)),
+        "the block of 70 is not this partition's",
+    ),
+    (Refusal::NotAMark(Tag(70)), "no mark ever had the tag 70"),
+    (Refusal::MarkDeleted(Tag(70)), "the mark 70 was deleted"),
+    (Refusal::InitialMark, "it is the initial mark"),
+    (
+        Refusal::TagsSpent(99),
+        "the next tag block would be 99, above the last",
+    ),
+    (Refusal::NoPartition(3), "there is no partition 3"),
+    (
+        Refusal::NotLocked(3),
+        "this thread does not hold the partition 3",
+    ),
+    (
+        Refusal::AlreadyLocked(3),
+        "this thread holds the partition 3 already",
+    ),
+    (
+        Refusal::LockOrder(3),
+        "this thread holds the partition 3, above the one asked for",
+    ),
+    (Refusal::NoName(5), "the operand 5 is not bound"),
+    (Refusal::SameFace(Tag(70)), "both faces are 70"),
+];
+
 #[test]
-fn texts(rt: HostRuntime) -> Result<(), Fail> {
-    let (a, b) = (Tag(70), Tag(71));
-    let cases = [
-        (
-            Refusal::NoSuchTag(a),
-            "70 names no live entity of this partition",
-        ),
-        (Refusal::WrongClass(a, Class::Fin), "70 is a fin"),
-        (
-            Refusal::OutOfRange(-1048577),
-            "-1048577 is outside its range",
-        ),
-        (
-            Refusal::NotOneLoop(a, b),
-            "the fins are in the loops 70 and 71",
-        ),
-        (
-            Refusal::SameVertex(a),
-            "the new edge would start and end at 70",
-        ),
-        (Refusal::NotStrut(a), "the fin after 70 is not its mate"),
-        (Refusal::OneLoop(a), "both fins are in the loop 70"),
-        (
-            Refusal::TwoLoops(a, b),
-            "the fin and its mate are in the loops 70 and 71",
-        ),
-        (Refusal::HasRings(a), "the face 70 has more than one loop"),
-        (Refusal::IsOuter(a), "70 is its face's outer loop"),
-        (
-            Refusal::NotOneFace(a, b),
-            "the loops are of the faces 70 and 71",
-        ),
-        (
-            Refusal::NotOneBody(a, b),
-            "the two are of the bodies 70 and 71",
-        ),
-        (Refusal::NotBare(a), "70 has more than it may"),
-        (
-            Refusal::CornerCount(2),
-            "2 corners are fewer than 3 or more than 256",
-        ),
-        (
-            Refusal::BadPolygon(4),
-            "the corner 4 makes no simple polygon",
-        ),
-        (
-            Refusal::FlatSweep,
-            "the vector does not point out of the face",
-        ),
-        (Refusal::NoAttribute(a), "70 has no attribute of that name"),
-        (
-            Refusal::NotOurs(a),
-            "the block of 70 is not this partition's",
-        ),
-        (Refusal::NotAMark(a), "no mark ever had the tag 70"),
-        (Refusal::MarkDeleted(a), "the mark 70 was deleted"),
-        (Refusal::InitialMark, "it is the initial mark"),
-        (
-            Refusal::TagsSpent(99),
-            "the next tag block would be 99, above the last",
-        ),
-        (Refusal::NoPartition(3), "there is no partition 3"),
-        (
-            Refusal::NotLocked(3),
-            "this thread does not hold the partition 3",
-        ),
-        (
-            Refusal::AlreadyLocked(3),
-            "this thread holds the partition 3 already",
-        ),
-        (
-            Refusal::LockOrder(3),
-            "this thread holds the partition 3, above the one asked for",
-        ),
-        (Refusal::NoName(5), "the operand 5 is not bound"),
-        (Refusal::SameFace(a), "both faces are 70"),
-    ];
-    for (refusal, text) in cases {
+fn texts_of_refusals(rt: HostRuntime) -> Result<(), Fail> {
+    for (refusal, text) in REFUSALS {
         assert_eq!(rt; format!(in rt.alloc(); "{refusal}")?.as_str(), text);
     }
+    Ok(())
+}
+
+#[test]
+fn texts_of_faults(rt: HostRuntime) -> Result<(), Fail> {
     let refused = Fault::Refused(Refusal::InitialMark);
     assert_eq!(rt;
         format!(in rt.alloc(); "{refused}")?.as_str(),

@@ -1,9 +1,9 @@
 -- What a replay keeps: the tags taken so far are the first ones of the blocks, and each live tag is among them.
 use Rattle.std.proofs.Common.{◌≡◌, ℕ, zero, suc, ◌+◌, ◌-◌, ◌*◌, ◌≤◌, ⊎_elim, Bool, true, false, cond, List, [], ◌∷◌, ◌++◌, length, take, Option, Some, None, Result, Ok, Err, refl, sym, ap, subst, ◌∙◌, arith}
-use Rattle.std.specs.Prelude.{◌==◌, nat_lt, map, find, is_some, slice_get, IsSome, Contains}
+use Rattle.std.specs.Prelude.{nat_lt, find, is_some, slice_get, IsSome, Contains}
 use Rattle.std.specs.List.{list_all, flat_map, filter_map, cons_option, AllByRecursion}
 use Rattle.std.specs.FinMap.{empty, get, get-empty}
-use Rattle.std.proofs.lemmas.Bool.{and_parts, eqb-true, true≢false}
+use Rattle.std.proofs.lemmas.Bool.{and_parts, true≢false}
 use Rattle.std.proofs.lemmas.Option.{same_Some, cond_some}
 use Rattle.std.proofs.lemmas.List.{append-nil, append_assoc, length-append}
 use Rattle.std.proofs.lemmas.List.Elements.{Contains-append_left, Contains-append_right}
@@ -21,12 +21,13 @@ use Rattle.pk_model.specs.Tags.{owns, next_tags, tags_of, tags_of_block}
 use Rattle.pk_model.specs.Maps.{EntityMap, tag_cmp, diff}
 use Rattle.pk_model.specs.State.{Mark, PartitionState, initial_mark, opening}
 use Rattle.pk_model.specs.Modelling.{Modelling, Outcome}
-use Rattle.pk_model.specs.Step.{act_cost, short, step, Stepped, answered, reached, mark_at, live_mark, parent_of, after_deletion, ◌>>=◌, call_reaches, mark_reaches, goto_reaches, unmark_reaches, deleted}
+use Rattle.pk_model.specs.Step.{act_cost, step, Stepped, answered, reached, mark_at, live_mark, parent_of, after_deletion, ◌>>=◌, call_reaches, mark_reaches, goto_reaches, unmark_reaches, deleted}
 use Rattle.pk_model.specs.Replay.{replay_from, replay, told_from, Told, drawn_block}
 use Rattle.pk_model.specs.Apart.{taken_by, taken_in, IsLiveIn}
 use Rattle.pk_model.specs.Laws.{IsTidy}
 use Rattle.pk_model.proofs.Replays.{replay_from-first, told_from-step}
-use Rattle.pk_model.proofs.TagLists.{Ascends, Ascends-push, ByRecursion-append, ByRecursion-weaker, length-next_tags, take-tags_of-more, take-tags_of-append}
+use Rattle.pk_model.proofs.TagLists.{Ascends, Ascends-push, ByRecursion-append, ByRecursion-weaker, length-next_tags, take-tags_of-more, take-tags_of-append, ByRecursion-map}
+use Rattle.pk_model.proofs.Ways.{enough}
 
 -- each tag of the map is among these
 abbrev pub AreFrom : List Tag → EntityMap → Type 0
@@ -74,10 +75,6 @@ ByRecursion-find P test (y ∷ ys) x h e =
       | false ↦ λ k. ByRecursion-find P test ys x h.1 k
     ] e
 
-ByRecursion-map : {X Y : Type 0} (P : X → Type 0) (Q : Y → Type 0) (f : X → Y) → ((x : X) → P x → Q (f x)) → (xs : List X) → AllByRecursion P xs → AllByRecursion Q (map f xs)
-ByRecursion-map P Q f g [] h = tt
-ByRecursion-map P Q f g (x ∷ xs) h = (g x h.0, ByRecursion-map P Q f g xs h.1)
-
 ByRecursion-slice_get : {X : Type 0} (P : X → Type 0) (xs : List X) (i : ℕ) (x : X) → AllByRecursion P xs → slice_get xs i ≡ Some x → P x
 ByRecursion-slice_get P [] i x h e = absurd (cc)
 ByRecursion-slice_get P (y ∷ ys) zero x h e = subst P (same_Some y x e) h.0
@@ -113,12 +110,6 @@ Kept-same p drawn taken s k =
 -- what a step leaves
 abbrev StepKept : Modelling → ℕ → List ℕ → List Tag → PartitionState → Entry → PartitionState → Type 0
 StepKept K p drawn taken s e after = Kept p (drawn ++ cons_option (drawn_block e) []) (taken ++ taken_by K s e) after
-
-enough : (K : Modelling) (s : PartitionState) (a : Act) → (short K s a == 0) ≡ true → act_cost K s a ≤ 64 * length s.blocks - s.used
-enough K s a h = let e : short K s a ≡ 0 = eqb-true _ _ h in omega arith
-
-take-none : (xs : List Tag) → take 0 xs ≡ []
-take-none xs = refl
 
 module _ (K : Modelling) (tidy : IsTidy K) (p : ℕ) (drawn : List ℕ) (taken : List Tag) where
   -- an act that takes nothing and leaves this state

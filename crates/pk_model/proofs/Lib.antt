@@ -1,8 +1,13 @@
+pub mod Steps
 pub mod Replays
 pub mod TagLists
+pub mod Ways
 pub mod Kept
+pub mod FirstMarks
+pub mod Return
 pub mod Apartness
 pub mod Tidy
 pub mod Computed
+pub mod Differences
 pub mod Vectors
 pub mod Sessions

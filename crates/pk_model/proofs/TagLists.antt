@@ -1,11 +1,15 @@
 -- The order of tags, and the tags of blocks.
-use Rattle.std.proofs.Common.{◌≡◌, ◌≢◌, ℕ, zero, suc, ◌+◌, ◌-◌, ◌*◌, ◌/◌, ◌%◌, ◌<◌, ◌≤◌, ⊎_elim, true, List, [], ◌∷◌, ◌++◌, length, take, drop, get_or, refl, sym, ap, subst, ◌∙◌, arith}
-use Rattle.std.specs.Prelude.{◌==◌, ◌↔◌, nat_lt, map, slice_index, slice_index_or, Contains, IsTrue}
+use Rattle.std.proofs.Common.{◌≡◌, ◌≢◌, ℕ, zero, suc, ◌+◌, ◌-◌, ◌*◌, ◌/◌, ◌%◌, ◌<◌, ◌≤◌, ⊎_elim, true, false, List, [], ◌∷◌, ◌++◌, length, take, get_or, refl, sym, ap, subst, ◌∙◌, arith}
+use Rattle.std.specs.Prelude.{◌==◌, nat_lt, map, slice_index, slice_index_or, Contains}
 use Rattle.std.specs.List.{range_with_len, list_all, AllByRecursion}
 use Rattle.std.specs.Cmp.{IsTotalOrder, nat_cmp_total}
 use Rattle.std.specs.FinMap.{IsAntisymmetric, nat_cmp-IsAntisymmetric}
-use Rattle.std.proofs.lemmas.Cmp.{on_total}
-use Rattle.std.proofs.lemmas.List.{length-append, length-drop, get_or-drop, drop-append-le, drop-drop, take-append-le, get_or_append_left, get_or-append_right}
+use Rattle.std.specs.Ordering.{eq_by_cmp, is_eq}
+use Rattle.std.specs.declared.cmp.Ordering.{Ordering}
+use Rattle.std.specs.declared.cmp.Ordering.TheVariants.{Less, Equal, Greater}
+use Rattle.std.proofs.lemmas.Cmp.{on_total, tied_itself}
+use Rattle.std.proofs.Math.Seq.{take-add}
+use Rattle.std.proofs.lemmas.List.{length-append, length-drop, get_or-drop, take-append-le, get_or_append_left, get_or-append_right}
 use Rattle.std.proofs.lemmas.List.Concat.{flat_map-append}
 use Rattle.std.proofs.lemmas.List.FromFn.{length-map-range_with_len, get_or-map-range_with_len}
 use Rattle.std.proofs.lemmas.List.Elements.{All-weaker, All-contains, All-contains_itself, All-from_recursion, recursion_from_All, Contains-append_left, Contains-append_right, Contains-append_cases}
@@ -24,6 +28,24 @@ tag_total = on_total (λ (t : Tag). t.0) nat_cmp_total
 
 pub tag_antisymmetric : IsAntisymmetric tag_cmp
 tag_antisymmetric x y e = ap tag (nat_cmp-IsAntisymmetric x.0 y.0 e)
+
+-- the test by which a map finds a tag
+pub ties_itself : (t : Tag) → eq_by_cmp tag_cmp t t ≡ true
+ties_itself t = ap is_eq (tied_itself tag_total t)
+
+is_equal : (o : Ordering) → is_eq o ≡ true → o ≡ Equal
+is_equal Less h = cc
+is_equal Equal h = refl
+is_equal Greater h = cc
+
+pub same_from_tie : (t u : Tag) → eq_by_cmp tag_cmp t u ≡ true → t ≡ u
+same_from_tie t u h = tag_antisymmetric t u (is_equal (tag_cmp t u) h)
+
+pub ties_no_other : (t u : Tag) → t ≢ u → eq_by_cmp tag_cmp t u ≡ false
+ties_no_other t u h = elim (eq_by_cmp tag_cmp t u) as (λ b. eq_by_cmp tag_cmp t u ≡ b → b ≡ false) [
+  | true ↦ λ e. absurd (h (same_from_tie t u e))
+  | false ↦ λ e. refl
+] refl
 
 -- ---- lengths, places and parts
 
@@ -52,7 +74,7 @@ length-tags_of (b ∷ bs) =
     let h = length-tags_of bs in
     omega arith
 
-block_place : (b i : ℕ) (d : Tag) → i < 64 → get_or (tags_of_block b) i d ≡ tag (64 * b + i)
+pub block_place : (b i : ℕ) (d : Tag) → i < 64 → get_or (tags_of_block b) i d ≡ tag (64 * b + i)
 unfolding tags_of_block
 block_place b i d h = get_or-map-range_with_len tag (64 * b) 64 i (64 * b + i) d h refl
 
@@ -85,21 +107,8 @@ tag_at-tags_of blocks i h = slice_index_or-tags_of blocks i (tag 0) h
 
 -- ---- what is taken, and what comes next
 
-pub take-more : {X : Type 0} (n k : ℕ) (xs : List X) → take (n + k) xs ≡ take n xs ++ take k (drop n xs)
-take-more zero k xs = let e : 0 + k ≡ k = omega arith in rw e refl
-take-more (suc n) k [] = let e : suc n + k ≡ suc (n + k) = omega arith in rw e (sym (take-nil k))
-  where
-    take-nil : {X : Type 0} (k : ℕ) → take {A = X} k [] ≡ []
-    take-nil zero = refl
-    take-nil (suc k) = refl
-take-more (suc n) k (x ∷ xs) = let e : suc n + k ≡ suc (n + k) = omega arith in rw e (ap (λ l. x ∷ l) (take-more n k xs))
-
--- once k more are taken, the next tags are those after the next k
-pub next_tags-more : (blocks : List ℕ) (used k : ℕ) → next_tags blocks (used + k) ≡ drop k (next_tags blocks used)
-next_tags-more blocks used k = sym (drop-drop k used (tags_of blocks))
-
 pub take-tags_of-more : (blocks : List ℕ) (used k : ℕ) → take (used + k) (tags_of blocks) ≡ take used (tags_of blocks) ++ take k (next_tags blocks used)
-take-tags_of-more blocks used k = take-more used k (tags_of blocks)
+take-tags_of-more blocks used k = take-add used k (tags_of blocks)
 
 pub length-next_tags : (blocks : List ℕ) (used : ℕ) → length (next_tags blocks used) ≡ 64 * length blocks - used
 length-next_tags blocks used = length-drop used (tags_of blocks) ∙ ap (λ n. n - used) (length-tags_of blocks)
@@ -113,11 +122,6 @@ pub take-tags_of-append : (bs cs : List ℕ) (used : ℕ) → used ≤ 64 * leng
 take-tags_of-append bs cs used h =
     let in' : used ≤ length (tags_of bs) = omega (arith, length-tags_of bs) in
     ap (take used) (tags_of-append bs cs) ∙ take-append-le used (tags_of bs) (tags_of cs) in'
-
-pub next_tags-append : (bs cs : List ℕ) (used : ℕ) → used ≤ 64 * length bs → next_tags (bs ++ cs) used ≡ next_tags bs used ++ tags_of cs
-next_tags-append bs cs used h =
-    let in' : used ≤ length (tags_of bs) = omega (arith, length-tags_of bs) in
-    ap (drop used) (tags_of-append bs cs) ∙ drop-append-le used (tags_of bs) (tags_of cs) in'
 
 -- ---- which tags they are
 
@@ -152,9 +156,6 @@ owns-Contains (b ∷ bs) t h =
     (λ (r : owns bs t ≡ true). Contains-append_right (tags_of_block b) (tags_of bs) t (owns-Contains bs t r))
     (or_cases _ _ h))
 
-pub Contains_iff_owns : (blocks : List ℕ) (t : Tag) → Contains (tags_of blocks) t ↔ IsTrue (owns blocks t)
-Contains_iff_owns blocks t = (λ h. Contains-owns blocks t h, λ h. owns-Contains blocks t h)
-
 -- ---- no repeats
 
 -- no tag of the one list is in the other
@@ -169,8 +170,18 @@ pub ByRecursion-weaker : {X : Type 0} (P Q : X → Type 0) → ((x : X) → P x 
 ByRecursion-weaker P Q f [] h = tt
 ByRecursion-weaker P Q f (x ∷ xs) h = (f x h.0, ByRecursion-weaker P Q f xs h.1)
 
+pub ByRecursion-map : {X Y : Type 0} (P : X → Type 0) (Q : Y → Type 0) (f : X → Y) → ((x : X) → P x → Q (f x)) → (xs : List X) → AllByRecursion P xs → AllByRecursion Q (map f xs)
+ByRecursion-map P Q f g [] h = tt
+ByRecursion-map P Q f g (x ∷ xs) h = (g x h.0, ByRecursion-map P Q f g xs h.1)
+
 pub ByRecursion-contains : {X : Type 0} (P : X → Type 0) (xs : List X) → ((x : X) → Contains xs x → P x) → AllByRecursion P xs
 ByRecursion-contains P xs f = recursion_from_All P xs (All-weaker (Contains xs) P f xs (All-contains_itself xs))
+
+-- what holds of each element holds of the one at a place
+pub ByRecursion-get_or : {X : Type 0} (P : X → Type 0) (xs : List X) (i : ℕ) (d : X) → i < length xs → AllByRecursion P xs → P (get_or xs i d)
+ByRecursion-get_or P [] i d h k = absurd (omega arith)
+ByRecursion-get_or P (x ∷ xs) zero d h k = k.0
+ByRecursion-get_or P (x ∷ xs) (suc i) d h k = ByRecursion-get_or P xs i d (omega arith) k.1
 
 pub ByRecursion-at : {X : Type 0} (P : X → Type 0) (xs : List X) (x : X) → AllByRecursion P xs → Contains xs x → P x
 ByRecursion-at P xs x h k = All-contains P xs x (All-from_recursion P xs h) k

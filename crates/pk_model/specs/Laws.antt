@@ -1,5 +1,5 @@
--- What the laws say: when a modeller is tidy, and when journals are of one session.
-use Rattle.std.specs.Prelude.{◌≡◌, ◌≢◌, ◌⊎◌, ℕ, ◌+◌, ◌<◌, ◌≤◌, List, [], ◌∷◌, length, take, Ok, Err, IsSome, Contains}
+-- What the laws say: when tags ascend, when a modeller is tidy, and when journals are of one session.
+use Rattle.std.specs.Prelude.{◌≡◌, ◌≢◌, ◌⊎◌, ℕ, ◌+◌, ◌<◌, ◌≤◌, List, [], ◌∷◌, length, take, Ok, Err, IsSome, AllPairs, Contains}
 use Rattle.std.specs.List.{flat_map, filter_map, AllByRecursion}
 use Rattle.std.specs.FinMap.{get}
 use Rattle.pk_base.specs.declared.tag.Tag.{Tag}
@@ -9,6 +9,10 @@ use Rattle.pk_base.specs.declared.refusal.Refusal.{Refusal}
 use Rattle.pk_model.specs.Maps.{EntityMap}
 use Rattle.pk_model.specs.Modelling.{Modelling, Outcome}
 use Rattle.pk_model.specs.Replay.{replay, drawn_block}
+
+-- each tag is below all later ones, so none stands twice
+abbrev pub TagsAscend : List Tag → Type 0
+TagsAscend tags = AllPairs (λ (a b : Tag). a.0 < b.0) tags
 
 -- Where a call has tags enough: each tag that is live after it was live before, or is one of those that it takes.
 -- A call that is refused takes none.

@@ -6,6 +6,7 @@ pub mod Codes
 pub mod Modelling
 pub mod Step
 pub mod Replay
+pub mod Return
 pub mod Apart
 pub mod VertexBodies
 pub mod Laws

@@ -1,5 +1,5 @@
 -- A state of solids is a finite map from tags to entities. How one map differs from another.
-use Rattle.std.specs.Prelude.{ℕ, ◌+◌, Bool, false, not, List, length, Option, Some, None, is_none, filter}
+use Rattle.std.specs.Prelude.{Bool, false, not, List, Option, Some, None, is_none, filter}
 use Rattle.std.specs.Ordering.{nat_cmp}
 use Rattle.std.specs.FinMap.{FinMap, get, keys, insert, remove}
 use Rattle.std.specs.declared.cmp.Ordering.{Ordering}
@@ -41,7 +41,3 @@ changed_tags old new = filter (λ t. differ (get old t) (get new t)) (keys new)
 -- the three lists, each ascending as keys do
 unfoldable pub diff : EntityMap → EntityMap → Lists
 diff old new = record { fresh = bare (fresh_tags old new); gone = bare (gone_tags old new); changed = bare (changed_tags old new) }
-
--- how many tags the three lists have together
-abbrev pub diff_size : EntityMap → EntityMap → ℕ
-diff_size old new = length (fresh_tags old new) + length (gone_tags old new) + length (changed_tags old new)

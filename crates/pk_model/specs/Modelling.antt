@@ -11,8 +11,8 @@ pub record Outcome : Type 0 where
   pub map : EntityMap
   pub reply : Reply
 
--- `step` takes the next tags, ascending, of which the call takes the first `cost`. It is asked only where there are
--- so many. `cost` is 0 where `step` refuses.
+-- `step` takes the next tags, of which the call takes the first `cost`. A partition asks it only where there are so
+-- many. A tidy modeller's cost is 0 where it refuses (`IsTidy`).
 pub record Modelling : Type 0 where
   pub step : EntityMap → Call → List Tag → Result Outcome Refusal
   pub cost : EntityMap → Call → ℕ

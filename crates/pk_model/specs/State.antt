@@ -5,7 +5,7 @@ use Rattle.pk_base.specs.declared.tag.Tag.{Tag}
 use Rattle.pk_model.specs.Tags.{tag}
 use Rattle.pk_model.specs.Maps.{EntityMap}
 
--- A mark, its parent, and the whole map that it stands for. One that is not live has no parent and the empty map.
+-- a mark, its parent, the whole map that it stands for, and whether it is live
 pub record Mark : Type 0 where
   pub tag : Tag
   pub parent : Option Tag

@@ -45,10 +45,13 @@ abbrev pub live_mark : Tag → Option Mark → Result Mark Refusal
 live_mark m None = Err (refusal.NotAMark m)
 live_mark m (Some k) = if k.live then Ok k else Err (refusal.MarkDeleted m)
 
--- The live mark of this tag. It is not ours where its block is not owned, else no mark where none ever had it,
--- else deleted where the mark is not live.
+-- The live mark of this tag among these. It is not ours where its block is not owned, else no mark where none ever had
+-- it, else deleted where the mark is not live.
+abbrev pub mark_among : List ℕ → List Mark → Tag → Result Mark Refusal
+mark_among blocks marks m = if owns blocks m then live_mark m (find (λ k. same_tag k.tag m) marks) else Err (refusal.NotOurs m)
+
 abbrev pub mark_at : PartitionState → Tag → Result Mark Refusal
-mark_at s m = if owns s.blocks m then live_mark m (find (λ k. same_tag k.tag m) s.marks) else Err (refusal.NotOurs m)
+mark_at s m = mark_among s.blocks s.marks m
 
 abbrev pub parent_of : Mark → Result Tag Refusal
 parent_of k = elim k.parent [ None ↦ Err refusal.InitialMark | Some p ↦ Ok p ]
@@ -64,7 +67,7 @@ after_deletion m p k = if same_tag k.tag m then deleted k else (if same_optional
 abbrev pub row_of : Mark → MarkRow
 row_of k = record { tag = k.tag; parent = k.parent }
 
--- the live marks, in the order in which they were made, which is that of their tags
+-- the live marks, in the order in which they were made
 abbrev pub live_rows : List Mark → List MarkRow
 live_rows marks = map row_of (filter (λ k. k.live) marks)
 

@@ -1,5 +1,5 @@
 -- Tags and the blocks in which a partition owns them.
-use Rattle.std.specs.Prelude.{ℕ, ◌-◌, ◌*◌, ◌/◌, ◌<◌, ◌==◌, Bool, List, [], ◌∷◌, map, length, drop, slice_index_or}
+use Rattle.std.specs.Prelude.{ℕ, ◌-◌, ◌*◌, ◌/◌, ◌<◌, ◌≤◌, ◌==◌, Bool, List, [], ◌∷◌, map, length, drop, slice_index_or}
 use Rattle.std.specs.List.{range_with_len, list_any, flat_map, AllByRecursion}
 use Rattle.pk_base.specs.declared.tag.Tag.{Tag}
 
@@ -22,6 +22,10 @@ tags_of blocks = flat_map tags_of_block blocks
 abbrev pub Ascends : List ℕ → Type 0
 Ascends [] = Unit {0}
 Ascends (b ∷ bs) = AllByRecursion (λ c. b < c) bs × Ascends bs
+
+-- each block is one that there may be: from 1 to 262,143
+abbrev pub AreInRange : List ℕ → Type 0
+AreInRange blocks = AllByRecursion (λ b. (1 ≤ b) × (b ≤ 262143)) blocks
 
 -- whether the tag's block is one of these
 abbrev pub owns : List ℕ → Tag → Bool

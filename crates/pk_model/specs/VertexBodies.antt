@@ -25,11 +25,11 @@ first_outside at = find (λ v. not (is_coordinate v)) (at.x ∷ at.y ∷ at.z �
 -- A body with q 1 and one face, whose one loop has a lone vertex at the point. The tags are the body's, the shell's, the
 -- face's, the loop's and the vertex's.
 abbrev pub with_vertex_body : EntityMap → Triple → Tag → Tag → Tag → Tag → Tag → EntityMap
-with_vertex_body m at body shell face ring vertex =
+with_vertex_body m at body shell face loop_ vertex =
     let m1 = insert m body (Body shell) in
     let m2 = insert m1 shell (Shell body (pos 1)) in
-    let m3 = insert m2 face (Face shell ring) in
-    let m4 = insert m3 ring (Loop face None (Some vertex)) in
+    let m3 = insert m2 face (Face shell loop_) in
+    let m4 = insert m3 loop_ (Loop face None (Some vertex)) in
     insert m4 vertex (Vertex body (record { x = at.x; y = at.y; z = at.z }))
 
 abbrev pub mvfs : EntityMap → Triple → List Tag → Outcome

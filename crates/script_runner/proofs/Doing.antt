@@ -1,7 +1,7 @@
 -- What an act of thread 1 in its partition says, and what it keeps.
-use Rattle.std.proofs.Common.{◌≡◌, ℕ, ◌+◌, ◌-◌, ◌≤◌, ◌<◌, ◌==◌, ◌&&◌, Bool, true, false, cond, List, [], ◌∷◌, ◌++◌, map, length, take, get_or, zero, suc, ℤ, Option, None, Some, unwrap_or, Result, Ok, Err, refl, sym, ap, subst, ◌∙◌, arith}
+use Rattle.std.proofs.Common.{◌≡◌, ℕ, ◌+◌, ◌-◌, ◌≤◌, ◌<◌, ◌==◌, ◌&&◌, Bool, true, false, cond, List, [], ◌∷◌, ◌++◌, map, length, take, get_or, suc, ℤ, Option, None, Some, unwrap_or, Result, Ok, Err, refl, sym, ap, subst, ◌∙◌, arith}
 use Rattle.std.proofs.Math.Seq.{take-suc}
-use Rattle.std.proofs.lemmas.List.{map-append}
+use Rattle.std.proofs.lemmas.List.{append_assoc, map-append}
 use Rattle.std.specs.Prelude.{IfOk}
 use Rattle.std.specs.List.{AllByRecursion}
 use Rattle.pk_base.specs.Plain.{plain_act, plain_reply}
@@ -21,18 +21,19 @@ use Rattle.pk_model.specs.Modelling.{Outcome}
 use Rattle.pk_model.specs.Step.{short, step, Stepped, answered, reached, mark_at}
 use Rattle.pk_model.specs.Tags.{next_tags}
 use Rattle.pk_model.specs.VertexBodies.{vertex_bodies, vertex_step, mvfs_cost, first_outside}
-use Rattle.partition.proofs.Steps.{reached-call, reached-call_refused, reached-goto, reached-goto_refused}
+use Rattle.pk_model.proofs.Steps.{reached-call, reached-call_refused, reached-goto, reached-goto_refused}
+use Rattle.pk_model.proofs.TagLists.{ByRecursion-get_or}
 use Rattle.partition.specs.Partition.{PartitionView, Appends, Answers, holder_of}
-use Rattle.script_runner.specs.Plain.{plain_line, plain_said}
+use Rattle.script_text.specs.Plain.{plain_line, plain_said}
 use Rattle.script_runner.specs.Run.{IsActLine, IsBuilt}
-use Rattle.script_runner.specs.Form.{act_line}
+use Rattle.script_text.specs.Form.{act_line}
 use Rattle.script_runner.specs.Runs.{Does, HasRoom, SaysOf, Tells}
-use Rattle.script_runner.specs.declared.script.Operand.{Operand}
-use Rattle.script_runner.specs.declared.script.Order.TheVariants.{On}
-use Rattle.script_runner.specs.declared.script.ScriptLine.{ScriptLine}
-use Rattle.script_runner.proofs.PlainLines.{plain_act_is}
-use Rattle.script_runner.specs.declared.report.Line.{Line}
-use Rattle.script_runner.specs.declared.report.LineSaid.{LineSaid}
+use Rattle.script_text.specs.declared.script.Operand.{Operand}
+use Rattle.script_text.specs.declared.script.Order.TheVariants.{On}
+use Rattle.script_text.specs.declared.script.ScriptLine.{ScriptLine}
+use Rattle.script_text.proofs.PlainLines.{plain_act_is}
+use Rattle.script_text.specs.declared.report.Line.{Line}
+use Rattle.script_text.specs.declared.report.LineSaid.{LineSaid}
 
 -- ---- what is said
 
@@ -86,6 +87,10 @@ did_keeps s a r b h = did_by s a (holds s 1 && (short vertex_bodies s a == 0)) r
 
 -- ---- lines that are done
 
+-- one line more behind those that were there first
+pub one_line_more : (first old new more : List Line) (m : Line) → new ≡ old ++ m ∷ [] → old ≡ first ++ more → new ≡ first ++ (more ++ m ∷ [])
+one_line_more first old new more m pushed was = pushed ∙ ap (λ ls. ls ++ m ∷ []) was ∙ append_assoc first more (m ∷ [])
+
 pub does_push : (old mid new : PartitionView) (ls : List ScriptLine) (ms : List Line) (l : ScriptLine) (m : Line) (a : Act) → m.number ≡ l.number → l ≡ act_line l.number a → Does old ls ms mid → Tells mid a m.said new → Does old (ls ++ l ∷ []) (ms ++ m ∷ []) new
 does_push old mid new [] [] l m a n is h t = (n, (a, (is, (new, (subst (λ (v : PartitionView). Tells v a m.said new) h t, refl)))))
 does_push old mid new (x ∷ ls) (y ∷ ms) l m a n is h t =
@@ -112,17 +117,12 @@ pub record IsNextAct (acts : List ScriptLine) (k : ℕ) (l : ScriptLine) (a : Ac
 one_more : (k : ℕ) → k + 1 ≡ suc k
 one_more k = omega arith
 
-each_at : (P : ScriptLine → Type 0) (ls : List ScriptLine) (k : ℕ) (l : ScriptLine) → AllByRecursion P ls → k < length ls → P (get_or ls k l)
-each_at P [] k l h less = absurd (omega (arith, less))
-each_at P (x ∷ ls) zero l h less = h.0
-each_at P (x ∷ ls) (suc k) l h less = each_at P ls k l h.1 (omega (arith, less))
-
 same_act : (l : ScriptLine) (a b : Act) (p : ℕ) (operands : List Operand) (bind : Option Name) → l ≡ act_line l.number a → l.order ≡ On p b operands bind → a ≡ b
 same_act l a b p operands bind is on = cc
 
 pub next_act : (acts : List ScriptLine) (k : ℕ) (l : ScriptLine) (a : Act) (p : ℕ) (operands : List Operand) (bind : Option Name) → AllByRecursion IsActLine acts → k < length acts → l ≡ get_or acts k l → l.order ≡ On p a operands bind → IsNextAct acts k l (plain_act a)
 next_act acts k l a p operands bind each less is on =
-    let x = subst IsActLine (sym is) (each_at IsActLine acts k l each less) in
+    let x = subst IsActLine (sym is) (ByRecursion-get_or IsActLine acts k l less each) in
     let same = same_act l x.0 a p operands bind x.1.1 on ∙ sym (plain_act_is a) in
     record {
       built = subst IsBuilt same x.1.0;

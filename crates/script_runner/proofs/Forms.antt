@@ -7,13 +7,12 @@ use Rattle.pk_base.specs.declared.act.Act.{Act}
 use Rattle.pk_base.specs.declared.act.Act.TheVariants as act
 use Rattle.pk_base.specs.declared.entity.Triple.{Triple}
 use Rattle.pk_model.specs.Tags.{tag}
-use Rattle.script_runner.specs.Form.{lines_of, words_of, act_of, act_of_words, command_of, triple_of, goto_of, mark_of, act_line, onto_lines, with_act, ends_at, acts_from, expects, script_with, script_of}
-use Rattle.script_runner.specs.Reading.{script_of_thread}
+use Rattle.script_text.specs.Form.{lines_of, words_of, act_of, act_of_words, command_of, triple_of, goto_act_of, mark_act_of, act_line, onto_lines, with_act, ends_at, acts_from, expects, script_with, script_of, script_of_thread}
 use Rattle.script_runner.specs.Run.{IsBuilt, IsActLine}
 use Rattle.script_runner.specs.Runs.{HasForm}
-use Rattle.script_runner.specs.declared.script.Script.{Script}
-use Rattle.script_runner.specs.declared.script.ScriptLine.{ScriptLine}
-use Rattle.script_runner.specs.declared.script.Order.TheVariants.{Lock, End}
+use Rattle.script_text.specs.declared.script.Script.{Script}
+use Rattle.script_text.specs.declared.script.ScriptLine.{ScriptLine}
+use Rattle.script_text.specs.declared.script.Order.TheVariants.{Lock, End}
 
 -- ---- an act that is read is built
 
@@ -25,12 +24,12 @@ number_built : (o : Option ℕ) (a : Act) → option_map (λ n. act.Goto (tag n)
 number_built None a e = cc
 number_built (Some n) a e = let same : act.Goto (tag n) ≡ a = cc in subst IsBuilt same tt
 
-goto_built : (operands : List (List ℕ)) (a : Act) → goto_of operands ≡ Some a → IsBuilt a
+goto_built : (operands : List (List ℕ)) (a : Act) → goto_act_of operands ≡ Some a → IsBuilt a
 goto_built [] a e = cc
 goto_built (m ∷ []) a e = number_built _ a e
 goto_built (m ∷ n ∷ more) a e = cc
 
-mark_built : (operands : List (List ℕ)) (a : Act) → mark_of operands ≡ Some a → IsBuilt a
+mark_built : (operands : List (List ℕ)) (a : Act) → mark_act_of operands ≡ Some a → IsBuilt a
 mark_built [] a e = let same : act.Mark ≡ a = cc in subst IsBuilt same tt
 mark_built (m ∷ more) a e = cc
 

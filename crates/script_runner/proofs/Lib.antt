@@ -1,16 +1,8 @@
-pub mod Acts
 pub mod Doing
 pub mod Forms
-pub mod Head
-pub mod Numbers
-pub mod Pieces
-pub mod PlainLines
-pub mod PlainText
 pub mod Refusals
 pub mod Reports
-pub mod TagRuns
 pub mod ThreadParts
-pub mod Transfers
 pub mod Walking
 pub mod Words
 pub mod WorkedReports

@@ -1,11 +1,11 @@
 -- Whether a transcript has a refusal.
 use Rattle.std.proofs.Common.{◌≡◌, ◌||◌, List, [], ◌∷◌, map, refl, ap₂}
 use Rattle.std.specs.List.{list_any}
-use Rattle.script_runner.specs.Plain.{plain_line, plain_said}
+use Rattle.script_text.specs.Plain.{plain_line, plain_said}
 use Rattle.script_runner.specs.Run.{is_refused}
-use Rattle.script_runner.specs.declared.report.Line.{Line}
-use Rattle.script_runner.specs.declared.report.LineSaid.{LineSaid}
-use Rattle.script_runner.specs.declared.report.LineSaid.TheVariants.{Locked, Unlocked, Ended, Answer, Refused}
+use Rattle.script_text.specs.declared.report.Line.{Line}
+use Rattle.script_text.specs.declared.report.LineSaid.{LineSaid}
+use Rattle.script_text.specs.declared.report.LineSaid.TheVariants.{Locked, Unlocked, Ended, Answer, Refused}
 
 is_refused-plain : (s : LineSaid) → is_refused (plain_said s) ≡ is_refused s
 is_refused-plain Locked = refl

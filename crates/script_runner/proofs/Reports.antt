@@ -5,13 +5,13 @@ use Rattle.pk_base.specs.declared.act.Entry.{Entry}
 use Rattle.pk_model.specs.VertexBodies.{vertex_bodies}
 use Rattle.pk_model.proofs.Apartness.{one_journal_apart}
 use Rattle.pk_model.proofs.Tidy.{vertex_bodies-IsTidy}
-use Rattle.script_runner.specs.LegalReport.{LegalReport}
-use Rattle.script_runner.specs.Reading.{script_of_thread}
+use Rattle.script_text.specs.Form.{script_of_thread}
+use Rattle.script_text.specs.LegalReport.{LegalReport}
 use Rattle.script_runner.specs.Run.{IsLawful}
 use Rattle.script_runner.specs.Runs.{IsRunOf, report_of_one}
-use Rattle.script_runner.specs.declared.script.Script.{Script}
-use Rattle.script_runner.specs.declared.script.ScriptLine.{ScriptLine}
-use Rattle.script_runner.specs.declared.report.Line.{Line}
+use Rattle.script_text.specs.declared.script.Script.{Script}
+use Rattle.script_text.specs.declared.script.ScriptLine.{ScriptLine}
+use Rattle.script_text.specs.declared.report.Line.{Line}
 
 pub run_legal : (script : Script) (lines : List ScriptLine) (journal : List Entry) (said : List Line) → script ≡ script_of_thread lines → IsRunOf lines journal said → LegalReport vertex_bodies script (report_of_one journal said)
 run_legal script lines journal said is run = subst (λ (s : Script). LegalReport vertex_bodies s (report_of_one journal said)) (sym is) (record { n = refl; last = refl; journals = run.journals; transcripts = (run.transcript, tt) })

@@ -2,9 +2,9 @@
 use Rattle.std.proofs.Common.{◌≡◌, ◌-◌, List, [], ◌∷◌, ◌++◌, length, get_or, take, drop, sym, ap, ap₂, ◌∙◌, arith}
 use Rattle.std.proofs.Math.Seq.{get_or-append_seam, take-append_seam}
 use Rattle.std.proofs.lemmas.List.{length-append}
+use Rattle.script_text.specs.Form.{end_line, lock_line}
 use Rattle.script_runner.specs.Run.{IsOneThread}
-use Rattle.script_runner.specs.Runs.{end_line, lock_line}
-use Rattle.script_runner.specs.declared.script.ScriptLine.{ScriptLine}
+use Rattle.script_text.specs.declared.script.ScriptLine.{ScriptLine}
 
 abbrev pub between : List ScriptLine → List ScriptLine
 between lines = take (length lines - 1 - 1) (drop 1 lines)

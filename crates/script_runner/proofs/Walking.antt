@@ -18,16 +18,17 @@ use Rattle.pk_model.specs.Step.{step, Stepped, silent}
 use Rattle.pk_model.specs.Replay.{replay, replay_from, Told, told_from, thread_of, drawn_block, spent_number}
 use Rattle.pk_model.specs.VertexBodies.{vertex_bodies}
 use Rattle.pk_model.proofs.Replays.{replay_from-step, replay_from-append, told_from-step, told_of}
+use Rattle.pk_model.proofs.TagLists.{ByRecursion-append}
 use Rattle.partition.specs.Partition.{PartitionView, Appends}
-use Rattle.script_runner.specs.Form.{act_line}
-use Rattle.script_runner.specs.LegalReport.{LegalJournals}
-use Rattle.script_runner.specs.Plain.{plain_line}
-use Rattle.script_runner.specs.Runs.{Does, IsRunOf, end_line, lock_line}
-use Rattle.script_runner.specs.Walk.{Walker, Walks, OrderSays, ActSays, said_of}
-use Rattle.script_runner.specs.declared.script.ScriptLine.{ScriptLine}
-use Rattle.script_runner.specs.declared.report.Line.{Line}
-use Rattle.script_runner.specs.declared.report.LineSaid.{LineSaid}
-use Rattle.script_runner.specs.declared.report.LineSaid.TheVariants.{Locked, Ended}
+use Rattle.script_text.specs.Form.{act_line, end_line, lock_line}
+use Rattle.script_text.specs.LegalReport.{LegalJournals}
+use Rattle.script_text.specs.Plain.{plain_line}
+use Rattle.script_runner.specs.Runs.{Does, IsRunOf}
+use Rattle.script_text.specs.Walk.{Walker, Walks, OrderSays, ActSays, said_of}
+use Rattle.script_text.specs.declared.script.ScriptLine.{ScriptLine}
+use Rattle.script_text.specs.declared.report.Line.{Line}
+use Rattle.script_text.specs.declared.report.LineSaid.{LineSaid}
+use Rattle.script_text.specs.declared.report.LineSaid.TheVariants.{Locked, Ended}
 
 -- the thread before it locks, and while it holds the partition, with these entries left
 abbrev pub before_lock : List Told → Walker
@@ -36,15 +37,18 @@ before_lock left = record { held = []; names = []; left = left ∷ [] }
 abbrev pub holding : List Told → Walker
 holding left = record { held = 1 ∷ []; names = []; left = left ∷ [] }
 
-abbrev WalksTo : Walker → List ScriptLine → List Line → Walker → Type 0
+-- the lines are walked, and told these
+abbrev pub WalksTo : Walker → List ScriptLine → List Line → Walker → Type 0
 WalksTo w lines said after = Walks vertex_bodies 1 1 w lines said after
 
-abbrev Says : Walker → ScriptLine → LineSaid → Walker → Type 0
+-- one line is told this
+abbrev pub Says : Walker → ScriptLine → LineSaid → Walker → Type 0
 Says w line said after = OrderSays vertex_bodies 1 1 w line.order said after
 
 -- ---- one line
 
-abbrev did : PartitionState → Act → Result Reply Refusal → Told
+-- the act was done in this state, with this answer
+abbrev pub did : PartitionState → Act → Result Reply Refusal → Told
 did s a answer = record { entry = Did 1 a; before = s; answer = Some answer }
 
 act_says : (s : PartitionState) (a : Act) (answer : Result Reply Refusal) (rest : List Told) → ActSays vertex_bodies 1 (holding (did s a answer ∷ rest)) 1 a None (said_of answer) (holding rest)
@@ -138,14 +142,11 @@ own_threads : (es : List Entry) → AllByRecursion IsOwnQuiet es → AllByRecurs
 own_threads [] h = tt
 own_threads (e ∷ es) h = let one = h.0.thread in ((omega (arith, one), omega (arith, one)), own_threads es h.1)
 
-quiet_append : (es fs : List Entry) → AllByRecursion IsOwnQuiet es → AllByRecursion IsOwnQuiet fs → AllByRecursion IsOwnQuiet (es ++ fs)
-quiet_append [] fs h k = k
-quiet_append (e ∷ es) fs h k = (h.0, quiet_append es fs h.1 k)
-
-abbrev claimed_at : PartitionState → Told
+-- the thread claimed the partition, or released it, in this state
+abbrev pub claimed_at : PartitionState → Told
 claimed_at s = record { entry = Claimed 1; before = s; answer = None }
 
-abbrev released_at : PartitionState → Told
+abbrev pub released_at : PartitionState → Told
 released_at s = record { entry = Released 1; before = s; answer = None }
 
 lock_says : (s : PartitionState) (k : ℕ) (rest : List Told) → Says (before_lock (claimed_at s ∷ rest)) (lock_line k) Locked (holding rest)
@@ -189,6 +190,10 @@ locked k = record { number = k; said = Locked }
 abbrev pub ended : ℕ → Line
 ended k = record { number = k; said = Ended (1 ∷ []) }
 
+-- the lines of a transcript, as they were added
+pub all_said : (none one some all more : List Line) (first last : Line) → none ≡ [] → one ≡ none ++ first ∷ [] → some ≡ one ++ more → all ≡ some ++ last ∷ [] → all ≡ first ∷ more ++ last ∷ []
+all_said none one some all more first last n o s a = a ∙ ap (λ ls. ls ++ last ∷ []) (s ∙ ap (λ ls. ls ++ more) (o ∙ ap (λ ls. ls ++ first ∷ []) n))
+
 pub told_lines : (first last : ℕ) (more : List Line) (parts : List ℕ) → parts ≡ 1 ∷ [] → map plain_line (locked first ∷ more ++ record { number = last; said = Ended parts } ∷ []) ≡ locked first ∷ map plain_line more ++ ended last ∷ []
 told_lines first last more parts is =
     ap (λ ls. locked first ∷ ls) (map-append plain_line more (record { number = last; said = Ended parts } ∷ []))
@@ -209,7 +214,7 @@ run_of claimed done released first last acts more c d r =
     let claims : Stepped = record { state = claimed.state; answer = None } in
     let releases : Stepped = record { state = released.state; answer = None } in
     let journal : released.journal ≡ whole = r.journal ∙ ap (λ j. j ++ Released 1 ∷ []) (w.journal ∙ ap (λ j. j ++ w.entries) c.journal) in
-    let quiet : AllByRecursion IsOwnQuiet whole = (record { thread = refl; drawn = refl; spent = refl }, quiet_append w.entries (Released 1 ∷ []) w.quiet (record { thread = refl; drawn = refl; spent = refl }, tt)) in
+    let quiet : AllByRecursion IsOwnQuiet whole = (record { thread = refl; drawn = refl; spent = refl }, ByRecursion-append IsOwnQuiet w.entries (Released 1 ∷ []) w.quiet (record { thread = refl; drawn = refl; spent = refl }, tt)) in
     let replays : replay vertex_bodies 1 whole ≡ Some released.state =
     replay_from-step vertex_bodies s (Claimed 1) (w.entries ++ Released 1 ∷ []) claims c.steps
     ∙ replay_from-append vertex_bodies claimed.state w.entries (Released 1 ∷ []) done.state w.replays

@@ -3,7 +3,7 @@ use Rattle.std.proofs.Common.{◌≡◌, ℕ, List, [], ◌∷◌, drop, None, S
 use Rattle.pk_base.specs.Listed.{bare}
 use Rattle.pk_base.specs.declared.tag.Tag.{Tag}
 use Rattle.pk_base.specs.declared.act.Act.TheVariants as act
-use Rattle.pk_base.specs.declared.act.Entry.TheVariants.{Claimed, Did, Released}
+use Rattle.pk_base.specs.declared.act.Entry.TheVariants.{Claimed, Did}
 use Rattle.pk_base.specs.declared.act.Reply.TheVariants as reply
 use Rattle.pk_model.specs.Tags as tags
 use Rattle.pk_model.specs.Tags.{tag, tag_at}
@@ -12,17 +12,16 @@ use Rattle.pk_model.specs.Step.{mark_reaches}
 use Rattle.pk_model.specs.Replay.{Told, told}
 use Rattle.pk_model.specs.VertexBodies.{vertex_bodies}
 use Rattle.partition.specs.Partition.{PartitionView}
-use Rattle.script_runner.specs.Form.{act_line}
-use Rattle.script_runner.specs.LegalReport.{LegalReport}
-use Rattle.script_runner.specs.Runs.{end_line, lock_line}
-use Rattle.script_runner.specs.Walk.{Walker, OrderSays, Walks, said_of, walker_of, with_left, with_held}
+use Rattle.script_text.specs.Form.{act_line, end_line, lock_line}
+use Rattle.script_text.specs.LegalReport.{LegalReport}
+use Rattle.script_text.specs.Walk.{Walker, said_of, walker_of, with_left, with_held}
 use Rattle.script_runner.specs.WorkedReports.{bare_script, made, mark_journal, mark_report, mark_script, told_at, untold_report}
-use Rattle.script_runner.specs.declared.script.ScriptLine.{ScriptLine}
-use Rattle.script_runner.specs.declared.report.Line.{Line}
-use Rattle.script_runner.specs.declared.report.LineSaid.{LineSaid}
-use Rattle.script_runner.specs.declared.report.LineSaid.TheVariants.{Locked, Ended, Answer}
+use Rattle.script_text.specs.declared.script.ScriptLine.{ScriptLine}
+use Rattle.script_text.specs.declared.report.Line.{Line}
+use Rattle.script_text.specs.declared.report.LineSaid.{LineSaid}
+use Rattle.script_text.specs.declared.report.LineSaid.TheVariants.{Locked, Ended, Answer}
 use Rattle.script_runner.proofs.Reports.{run_legal}
-use Rattle.script_runner.proofs.Walking.{before_lock, holding, own, run_of}
+use Rattle.script_runner.proofs.Walking.{Says, WalksTo, before_lock, claimed_at, did, holding, own, released_at, run_of}
 
 abbrev held_state : PartitionState
 held_state = record (opening 1) { holder = Some 1 }
@@ -48,20 +47,17 @@ is_legal =
 -- ---- the walk of any report with this journal
 
 abbrev first_told : Told
-first_told = record { entry = Claimed 1; before = opening 1; answer = None }
+first_told = claimed_at (opening 1)
 
 abbrev mark_told : Told
-mark_told = record { entry = Did 1 act.Mark; before = held_state; answer = Some (Ok (reply.Made (bare (tag 65 ∷ [])))) }
+mark_told = did held_state act.Mark (Ok (reply.Made (bare (tag 65 ∷ []))))
 
 abbrev last_told : Told
-last_told = record { entry = Released 1; before = marked.state; answer = None }
+last_told = released_at marked.state
 
 told_is : told vertex_bodies 1 mark_journal ≡ first_told ∷ mark_told ∷ last_told ∷ []
 unfolding tags.tags_of tags.tags_of_block
 told_is = refl
-
-abbrev Says : Walker → ScriptLine → LineSaid → Walker → Type 0
-Says w line said after = OrderSays vertex_bodies 1 1 w line.order said after
 
 -- after the lock, the mark's entry and the release are left
 after_lock : (k : ℕ) (said : LineSaid) (mid : Walker) → Says (before_lock (first_told ∷ mark_told ∷ last_told ∷ [])) (lock_line k) said mid → mid ≡ holding (mark_told ∷ last_told ∷ [])
@@ -96,8 +92,8 @@ other_tag h = let same : 66 ≡ 65 = ap (λ ts. (tag_at ts 0).0) (ap tags_said h
 walker_is : walker_of vertex_bodies 1 (mark_journal ∷ []) ≡ before_lock (first_told ∷ mark_told ∷ last_told ∷ [])
 walker_is = ap (λ ts. before_lock (own ts)) told_is
 
-walked_is : (lines : List ScriptLine) (said : List Line) (after : Walker) → Walks vertex_bodies 1 1 (walker_of vertex_bodies 1 (mark_journal ∷ [])) lines said after → Walks vertex_bodies 1 1 (before_lock (first_told ∷ mark_told ∷ last_told ∷ [])) lines said after
-walked_is lines said after h = subst (λ w. Walks vertex_bodies 1 1 w lines said after) walker_is h
+walked_is : (lines : List ScriptLine) (said : List Line) (after : Walker) → WalksTo (walker_of vertex_bodies 1 (mark_journal ∷ [])) lines said after → WalksTo (before_lock (first_told ∷ mark_told ∷ last_told ∷ [])) lines said after
+walked_is lines said after h = subst (λ w. WalksTo w lines said after) walker_is h
 
 pub no_other_answer : LegalReport vertex_bodies mark_script (mark_report (made (tag 66))) → ⊥
 no_other_answer h =

@@ -1,11 +1,4 @@
 -- In reading order.
-pub mod Plain
-pub mod Outside
-pub mod Form
-pub mod Walk
-pub mod LegalReport
-pub mod Text
-pub mod Reading
 pub mod Run
 pub mod Runs
 pub mod WorkedReports

@@ -5,20 +5,19 @@ use Rattle.pk_base.specs.declared.act.Act.{Act}
 use Rattle.pk_base.specs.declared.act.Act.TheVariants as act
 use Rattle.pk_model.specs.VertexBodies.{vertex_bodies}
 use Rattle.pk_model.specs.Apart.{Apart}
-use Rattle.script_runner.specs.Form.{act_line, script_of}
-use Rattle.script_runner.specs.LegalReport.{HasLegalJournals, LegalReport}
-use Rattle.script_runner.specs.declared.script.ScriptLine.{ScriptLine}
-use Rattle.script_runner.specs.declared.script.Order.TheVariants.{Lock, End}
-use Rattle.script_runner.specs.declared.script.Cause.TheVariants.{NotBuilt}
-use Rattle.script_runner.specs.declared.report.Report.{Report}
-use Rattle.script_runner.specs.declared.report.Line.{Line}
-use Rattle.script_runner.specs.declared.report.LineSaid.{LineSaid}
-use Rattle.script_runner.specs.declared.report.LineSaid.TheVariants.{Locked, Unlocked, Ended, Answer, Refused}
+use Rattle.script_text.specs.Form.{act_line, end_line, lock_line, script_of}
+use Rattle.script_text.specs.LegalReport.{HasLegalJournals, LegalReport}
+use Rattle.script_text.specs.declared.script.ScriptLine.{ScriptLine}
+use Rattle.script_text.specs.declared.script.Cause.TheVariants.{NotBuilt}
+use Rattle.script_text.specs.declared.report.Report.{Report}
+use Rattle.script_text.specs.declared.report.Line.{Line}
+use Rattle.script_text.specs.declared.report.LineSaid.{LineSaid}
+use Rattle.script_text.specs.declared.report.LineSaid.TheVariants.{Locked, Unlocked, Ended, Answer, Refused}
 use Rattle.script_runner.specs.declared.run.Status.{Status}
 use Rattle.script_runner.specs.declared.run.Status.TheVariants as status
-use Rattle.script_runner.specs.declared.transfer.ReadNo.{ReadNo}
-use Rattle.script_runner.specs.declared.transfer.ReadNo.TheVariants as no
-use Rattle.script_runner.specs.declared.transfer.TheConstants.{MOST_INPUT}
+use Rattle.pk_outside.specs.declared.transfer.ReadNo.{ReadNo}
+use Rattle.pk_outside.specs.declared.transfer.ReadNo.TheVariants as no
+use Rattle.pk_outside.specs.declared.transfer.TheConstants.{MOST_INPUT}
 
 -- the number of a status, with which the program ends
 abbrev pub number_of_status : Status → ℕ
@@ -116,6 +115,6 @@ pub record IsOneThread (lines : List ScriptLine) : Type 0 where
   pub first : ℕ
   pub acts : List ScriptLine
   pub last : ℕ
-  pub whole : lines ≡ record { number = first; order = Lock 1 } ∷ acts ++ record { number = last; order = End } ∷ []
+  pub whole : lines ≡ lock_line first ∷ acts ++ end_line last ∷ []
   pub few : length acts ≤ 12
   pub each : AllByRecursion IsActLine acts

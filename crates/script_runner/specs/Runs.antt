@@ -10,25 +10,16 @@ use Rattle.pk_base.specs.declared.refusal.Fault.TheVariants as fault
 use Rattle.pk_model.specs.State.{PartitionState}
 use Rattle.pk_model.specs.VertexBodies.{vertex_bodies}
 use Rattle.partition.specs.Partition.{Appends, PartitionView}
-use Rattle.script_runner.specs.Form.{act_line}
-use Rattle.script_runner.specs.LegalReport.{LegalJournals, IsTranscript}
-use Rattle.script_runner.specs.Reading.{script_of_thread}
+use Rattle.script_text.specs.Form.{act_line, script_of_thread}
+use Rattle.script_text.specs.LegalReport.{LegalJournals, IsTranscript}
 use Rattle.script_runner.specs.Run.{IsOneThread}
-use Rattle.script_runner.specs.Walk.{said_of}
-use Rattle.script_runner.specs.declared.script.Script.{Script}
-use Rattle.script_runner.specs.declared.script.ScriptLine.{ScriptLine}
-use Rattle.script_runner.specs.declared.script.Order.TheVariants.{Lock, End}
-use Rattle.script_runner.specs.declared.report.Report.{Report}
-use Rattle.script_runner.specs.declared.report.Line.{Line}
-use Rattle.script_runner.specs.declared.report.LineSaid.{LineSaid}
-use Rattle.script_runner.specs.declared.report.LineSaid.TheVariants.{Answer, Refused}
-
--- the first line of the thread, and the last
-abbrev pub lock_line : ℕ → ScriptLine
-lock_line k = record { number = k; order = Lock 1 }
-
-abbrev pub end_line : ℕ → ScriptLine
-end_line k = record { number = k; order = End }
+use Rattle.script_text.specs.Walk.{said_of}
+use Rattle.script_text.specs.declared.script.Script.{Script}
+use Rattle.script_text.specs.declared.script.ScriptLine.{ScriptLine}
+use Rattle.script_text.specs.declared.report.Report.{Report}
+use Rattle.script_text.specs.declared.report.Line.{Line}
+use Rattle.script_text.specs.declared.report.LineSaid.{LineSaid}
+use Rattle.script_text.specs.declared.report.LineSaid.TheVariants.{Answer, Refused}
 
 -- a script of the form: one partition, one block and one thread
 pub record HasForm (script : Script) : Type 0 where

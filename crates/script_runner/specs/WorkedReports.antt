@@ -6,14 +6,13 @@ use Rattle.pk_base.specs.declared.act.Entry.{Entry}
 use Rattle.pk_base.specs.declared.act.Entry.TheVariants.{Claimed, Did, Released}
 use Rattle.pk_base.specs.declared.tag.Tag.{Tag}
 use Rattle.pk_base.specs.declared.act.Reply.TheVariants as reply
-use Rattle.script_runner.specs.Form.{act_line}
-use Rattle.script_runner.specs.Reading.{script_of_thread}
-use Rattle.script_runner.specs.Runs.{end_line, lock_line, report_of_one}
-use Rattle.script_runner.specs.declared.script.Script.{Script}
-use Rattle.script_runner.specs.declared.report.Report.{Report}
-use Rattle.script_runner.specs.declared.report.Line.{Line}
-use Rattle.script_runner.specs.declared.report.LineSaid.{LineSaid}
-use Rattle.script_runner.specs.declared.report.LineSaid.TheVariants.{Locked, Ended, Answer}
+use Rattle.script_text.specs.Form.{act_line, end_line, lock_line, script_of_thread}
+use Rattle.script_runner.specs.Runs.{report_of_one}
+use Rattle.script_text.specs.declared.script.Script.{Script}
+use Rattle.script_text.specs.declared.report.Report.{Report}
+use Rattle.script_text.specs.declared.report.Line.{Line}
+use Rattle.script_text.specs.declared.report.LineSaid.{LineSaid}
+use Rattle.script_text.specs.declared.report.LineSaid.TheVariants.{Locked, Ended, Answer}
 
 abbrev pub mark_script : Script
 mark_script = script_of_thread (lock_line 3 ∷ act_line 4 act.Mark ∷ end_line 5 ∷ [])

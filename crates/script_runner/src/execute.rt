@@ -3,18 +3,18 @@ ghost use Rattle.std.specs.List.{AllByRecursion};
 ghost use Rattle.pk_base.specs.Plain.{plain_act, plain_entry};
 ghost use Rattle.pk_model.specs.VertexBodies.{vertex_bodies};
 ghost use Rattle.partition.specs.Partition.{Answers};
-ghost use Rattle.script_runner.specs.LegalReport.{LegalReport};
-ghost use Rattle.script_runner.specs.Plain.{plain_line, plain_said};
-ghost use Rattle.script_runner.specs.Reading.{script_of_thread};
+ghost use Rattle.script_text.specs.Form.{end_line, lock_line, script_of_thread};
+ghost use Rattle.script_text.specs.LegalReport.{LegalReport};
+ghost use Rattle.script_text.specs.Plain.{plain_line, plain_said};
 ghost use Rattle.script_runner.specs.Run.{IsActLine, IsBuilt, IsLawful, IsOneThread};
-ghost use Rattle.script_runner.specs.Runs.{Does, HasForm, HasRoom, IsRunOf, SaysOf, Tells, end_line, lock_line, report_of_one};
+ghost use Rattle.script_runner.specs.Runs.{Does, HasForm, HasRoom, IsRunOf, SaysOf, Tells, report_of_one};
 
-use crate::{
-    EntryList, Items, Line, LineSaid, Order, PartList, Report, SaidList, Script, ScriptLine,
-};
 use entity_store::Steps;
 use partition::Partition;
 use pk_base::{Act, Entry, Fault, NoMemory, Reply};
+use script_text::{
+    EntryList, Items, Line, LineSaid, Order, PartList, Report, SaidList, Script, ScriptLine,
+};
 use std::alloc::Global;
 use std::marker::Brand;
 use std::sync::ledger::{Blank, Ledger};

@@ -1,6 +1,6 @@
 ghost use Rattle.pk_model.specs.Tags.{tag};
 ghost use Rattle.pk_model.specs.VertexBodies.{vertex_bodies};
-ghost use Rattle.script_runner.specs.LegalReport.{LegalReport};
+ghost use Rattle.script_text.specs.LegalReport.{LegalReport};
 ghost use Rattle.script_runner.specs.WorkedReports.{bare_script, made, mark_report, mark_script, untold_report};
 
 /// A report that is legal, and two with the same journal that are not: one that tells the mark's line a tag that was not

@@ -1,18 +1,15 @@
-ghost use Rattle.std.specs.Prelude.{◌≡◌, ℕ, ◌<◌, ◌≤◌, ◌⊎◌, ◌↔◌, [], ◌∷◌, length, map, take, codes, string_bytes, IfOk, IfErr, IfSome, IsOk, IsSome, IsTrue, None, Some};
+ghost use Rattle.std.specs.Prelude.{◌≡◌, ℕ, ◌+◌, ◌≤◌, ◌⊎◌, ◌↔◌, [], ◌∷◌, length, map, take, codes, string_bytes, IfOk, IfErr, IfSome, IsOk, IsSome, IsTrue, None, Some};
 ghost use Rattle.std.specs.List.{list_any};
-ghost use Rattle.script_runner.specs.Form.{script_of};
-ghost use Rattle.script_runner.specs.Outside.{Took, IsAtEnd, Grows, HasFailed};
-ghost use Rattle.script_runner.specs.Text.{text_of};
-ghost use Rattle.script_runner.specs.Reading.{Fails};
-ghost use Rattle.script_runner.specs.declared.transfer.TheConstants.{MOST_INPUT};
+ghost use Rattle.script_text.specs.Form.{script_of};
+ghost use Rattle.pk_outside.specs.Outside.{Took, IsAtEnd, Grows, HasFailed};
+ghost use Rattle.script_text.specs.Text.{text_of};
+ghost use Rattle.script_text.specs.Reading.{Fails};
+ghost use Rattle.pk_outside.specs.declared.transfer.TheConstants.{MOST_INPUT};
 ghost use Rattle.script_runner.specs.Run.{EndsFor, HasRun, IsFinished, IsJudged, IsLawful, IsReportOf, is_refused, number_of_status, status_of, status_of_no};
 
 use crate::execute::execute;
-use crate::transfer::{ReadNo, read_all, write_all};
-use crate::{
-    Cause, Failed, LineSaid, Report, SaidList, ScriptNo, Sink, Source, Text, read_script,
-    report_text,
-};
+use pk_outside::{Failed, ReadNo, Sink, Source, read_all, write_all};
+use script_text::{Cause, LineSaid, Report, SaidList, ScriptNo, Text, read_script, report_text};
 use std::alloc::Global;
 
 /// How a run ended.
@@ -54,7 +51,7 @@ impl Status {
     }
 }
 
-/// How a run ended, and its report where it ran.
+/// How a run ended, and its report, which it has exactly where it ended with `Done`, `SomeRefused` or `WriteFault`.
 #[derive(Debug, Drop)]
 pub struct Outcome {
     pub status: Status,
@@ -78,10 +75,11 @@ pub fn run_serial<S: Source, K: Sink>(
     ensures lawful { IfSome result.report IsLawful }
     ensures legal { IfSome result.report (λ report. IfSome (S.left source.old) (λ bytes. IsReportOf bytes report)) }
     ensures read { IsJudged result.status → IsAtEnd (S.left source.new) }
+    ensures within { IsJudged result.status → Took (λ n. n ≤ MOST_INPUT) (S.left source.old) (S.left source.new) }
 
-    // What is written: the whole text, or a front of it where a write failed, or nothing.
+    // What is written: the whole text, or a prefix of it where a write failed, or nothing.
     ensures whole { IfSome result.report (λ report. result.status ≡ status_of report → Grows (K.held sink.old) (K.held sink.new) (text_of report)) }
-    ensures front { IfSome result.report (λ report. (result.status ≡ status_of report) ⊎ ((result.status ≡ Status.WriteFault)
+    ensures prefix { IfSome result.report (λ report. (result.status ≡ status_of report) ⊎ ((result.status ≡ Status.WriteFault)
         × ((n : ℕ) × (n ≤ length (text_of report)) × Grows (K.held sink.old) (K.held sink.new) (take n (text_of report))))) }
     ensures nothing { result.report ≡ None → sink.new ≡ sink.old }
 
@@ -90,15 +88,24 @@ pub fn run_serial<S: Source, K: Sink>(
     ensures unread { result.status ≡ Status.BadWords → source.new ≡ source.old }
     ensures input { IfSome (S.left source.old) (λ bytes. (result.status ≡ Status.BadWords) ⊎ ((result.status ≡ Status.NoMemory)
         ⊎ ((result.status ≡ Status.ReadFault) ⊎ EndsFor bytes result.status))) }
-    ensures too_long { result.status ≡ Status.TooLong → Took (λ n. MOST_INPUT < n) (S.left source.old) (S.left source.new) }
+    ensures too_long { result.status ≡ Status.TooLong → Took (λ n. n ≡ MOST_INPUT + 1) (S.left source.old) (S.left source.new) }
     ensures cut { result.status ≡ Status.ReadFault → Took (λ n. n ≤ MOST_INPUT) (S.left source.old) (S.left source.new) }
     ensures read_fault { result.status ≡ Status.ReadFault → HasFailed (S.faults source.old) (S.faults source.new) }
     ensures write_fault { result.status ≡ Status.WriteFault → HasFailed (K.faults sink.old) (K.faults sink.new) }
 
+    // Reading stops with the first read that fails, and writing with the first write.
+    ensures no_read_fault { ¬ (result.status ≡ Status.ReadFault) → S.faults source.new ≡ S.faults source.old }
+    ensures no_write_fault { ¬ (result.status ≡ Status.WriteFault) → K.faults sink.new ≡ K.faults sink.old }
+
     // Where the words and the input are good and nothing fails, it writes the report, unless memory runs out.
     ensures complete { map string_bytes words.now ≡ codes "--serial" ∷ [] → IfSome (S.left source.old) (λ bytes. length bytes ≤ MOST_INPUT → IsOk (script_of bytes)
         → ¬ (HasFailed (S.faults source.old) (S.faults source.new)) → ¬ (HasFailed (K.faults sink.old) (K.faults sink.new)) → IsFinished result.status) }
-    ensures counted { (S.faults source.old ≤ S.faults source.new) × (K.faults sink.old ≤ K.faults sink.new) }
+    ensures reads_counted { S.faults source.old ≤ S.faults source.new }
+    ensures writes_counted { K.faults sink.old ≤ K.faults sink.new }
+
+    // It reads at most 4,194,305 times, and writes at most once for each byte of the text.
+    ensures reads { S.calls source.new ≤ S.calls source.old + (MOST_INPUT + 1) }
+    ensures writes { IfSome result.report (λ report. K.calls sink.new ≤ K.calls sink.old + length (text_of report)) }
 {
     if !are_serial(words) {
         return without_report(Status::BadWords);
@@ -160,10 +167,12 @@ fn write_report<K: Sink>(report: Report, text: &Text, sink: &mut K) -> Outcome
     requires { text.now ≡ text_of report }
     ensures report { result.report ≡ Some report }
     ensures whole { result.status ≡ status_of report → Grows (K.held sink.old) (K.held sink.new) (text_of report) }
-    ensures front { (result.status ≡ status_of report) ⊎ ((result.status ≡ Status.WriteFault)
+    ensures prefix { (result.status ≡ status_of report) ⊎ ((result.status ≡ Status.WriteFault)
         × ((n : ℕ) × (n ≤ length (text_of report)) × Grows (K.held sink.old) (K.held sink.new) (take n (text_of report)))) }
     ensures fault { result.status ≡ Status.WriteFault → HasFailed (K.faults sink.old) (K.faults sink.new) }
+    ensures no_fault { ¬ (result.status ≡ Status.WriteFault) → K.faults sink.new ≡ K.faults sink.old }
     ensures counted { K.faults sink.old ≤ K.faults sink.new }
+    ensures calls { K.calls sink.new ≤ K.calls sink.old + length (text_of report) }
 {
     let status = match write_all(sink, text.as_slice()) {
         Ok(()) => status_after(&report),

@@ -1,7 +1,12 @@
 //! Carries out the script that standard input holds, and writes its report to standard output.
 #![tactic(auto)]
 
-use script_runner::{Status, StdinSource, StdoutSink, run_serial};
+ghost use Rattle.std.specs.Prelude.{◌≡◌, ◌⊎◌, IfErr};
+ghost use Rattle.std.specs.Process.{exit_status};
+ghost use Rattle.script_runner.specs.Run.{number_of_status};
+
+use pk_outside::{StdinSource, StdoutSink};
+use script_runner::{Status, run_serial};
 use std::alloc::Global;
 use std::env::{self, Env};
 use std::io::{self, ErrorKind};
@@ -18,11 +23,20 @@ fn main(rt: HostRuntime) -> ExitCode {
     };
     // There is nowhere left to say that standard error takes nothing.
     let _ = tell(&rt, status);
+    exit_code(status)
+}
+
+/// The process ends with the number of the status.
+fn exit_code(status: Status) -> ExitCode
+    ensures { exit_status result ≡ number_of_status status }
+{
     ExitCode::from(status.number())
 }
 
 /// The words after the program's name. A word that is not UTF-8 is none of this program's.
-fn words<R: Env + Alloc<A = Global>>(rt: &R) -> Result<Vec<String>, Status> {
+fn words<R: Env + Alloc<A = Global>>(rt: &R) -> Result<Vec<String>, Status>
+    ensures { IfErr result (λ status. (status ≡ Status.BadWords) ⊎ (status ≡ Status.NoMemory)) }
+{
     let mut words = Vec::new(rt.alloc());
     let all = env::args(rt).map_err(|error| match error.kind() {
         ErrorKind::OutOfMemory => Status::NoMemory,

@@ -1,8 +1,11 @@
 use super::*;
-use crate::{MemSink, MemSource};
+use examples::EXAMPLES;
 use pk_base::NoMemory;
+use pk_outside::{MemSink, MemSource};
 use std::process::Abort;
 use std::test::Fail;
+
+mod examples;
 
 const FIRST: &[u8] =
     b"session 1 1\nthread\nlock 1\n1 mvfs 0 0 0\n1 mark\n1 mvfs 1 0 0\n1 goto 70\n1 goto 64\nend\n";
@@ -53,6 +56,32 @@ fn runs_the_first_script(rt: HostRuntime) -> Result<(), Fail> {
         status_of(&rt, rt.alloc(), FIRST, FIRST_REPORT)?,
         Status::Done
     );
+    Ok(())
+}
+
+#[test]
+fn a_report_has_its_lists(rt: HostRuntime) -> Result<(), Fail> {
+    let alloc = rt.alloc();
+    let mut source = MemSource::new(alloc, FIRST, 4096, &[])?;
+    let mut sink = MemSink::new(alloc, 4096, 4096, &[])?;
+    let outcome = run(alloc, &mut source, &mut sink)?;
+    let report = outcome.report.expect(&rt, "the run has a report");
+    assert_eq!(rt; (report.n, report.last), (1, 1));
+    let said = report.threads.as_slice().first();
+    assert_eq!(rt; said.map(|lines| lines.as_slice().len()), Some(7));
+    let journal = report.journals.as_slice().first();
+    assert_eq!(rt; journal.map(|entries| entries.as_slice().len()), Some(7));
+    Ok(())
+}
+
+#[test]
+fn runs_the_examples(rt: HostRuntime) -> Result<(), Fail> {
+    for (script, report, status) in EXAMPLES {
+        assert_eq!(rt;
+            status_of(&rt, rt.alloc(), script.as_bytes(), report.as_bytes())?,
+            status
+        );
+    }
     Ok(())
 }
 
@@ -122,19 +151,21 @@ fn a_failed_read_ends_the_run(rt: HostRuntime) -> Result<(), Fail> {
 }
 
 #[test]
-fn a_failed_write_leaves_a_front_of_the_report(rt: HostRuntime) -> Result<(), Fail> {
+fn a_failed_write_leaves_a_prefix_of_the_report(rt: HostRuntime) -> Result<(), Fail> {
     let alloc = rt.alloc();
     let mut source = MemSource::new(alloc, FIRST, 4096, &[])?;
     let mut sink = MemSink::new(alloc, 4096, 64, &[2])?;
     let outcome = run(alloc, &mut source, &mut sink)?;
     assert_eq!(rt; outcome.status, Status::WriteFault);
-    assert!(rt; outcome.report.is_some());
     assert_eq!(rt; sink.as_slice(), &FIRST_REPORT[..64]);
+    let report = outcome.report.expect(&rt, "the run has a report");
+    let text = report_text(alloc, &report)?;
+    assert_eq!(rt; text.as_slice(), FIRST_REPORT);
     Ok(())
 }
 
 #[test]
-fn a_sink_without_room_takes_a_front_of_the_report(rt: HostRuntime) -> Result<(), Fail> {
+fn a_sink_without_room_takes_a_prefix_of_the_report(rt: HostRuntime) -> Result<(), Fail> {
     let alloc = rt.alloc();
     let mut source = MemSource::new(alloc, FIRST, 4096, &[])?;
     let mut sink = MemSink::new(alloc, 100, 4096, &[])?;

@@ -20,16 +20,18 @@ loop-tag-preserved g c =
           record {
             items = more true (omega arith) c.loop-tag.invariant.items passes (ap (λ l. l.items) w.fresh-is ∙ w.push.ensures.items);
             spare = omega (arith, w.push.ensures.spare, ap (λ l. l.spare) w.fresh-is);
+            cost = omega arith;
           }
       | else-is_none w ↦
           let fails = sym (ap is_none c.get.ensures.value) ∙ absent_by c.get.result c.is_none.result c.is_none.ensures ∙ w.if-is_none.false in
           record {
             items = more false (omega arith) c.loop-tag.invariant.items fails (ap (λ l. l.items) w.fresh-is ∙ sym (append-nil c.loop-tag.fresh.items));
             spare = omega (arith, ap (λ l. l.spare) w.fresh-is);
+            cost = omega arith;
           }
     ]
 
-pub returns : goal.returns
-returns g c =
+pub returns-clause-value : goal.returns-clause-value
+returns-clause-value g c =
     let test : Tag → Bool = λ t. is_none (get c.args.store.now.map t) in
     c.loop-tag.invariant.items ∙ ap (λ ps. c.args.fresh.now.items ++ filter test (map (λ p. p.0) ps)) (take_all c.loop-tag.tag-index c.args.to.now (omega arith))

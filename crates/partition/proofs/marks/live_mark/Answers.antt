@@ -3,7 +3,8 @@ use Rattle.std.proofs.lemmas.Result.{IfOk-weaker, IfErr-weaker}
 use Rattle.pk_base.specs.declared.refusal.Refusal.{Refusal}
 use Rattle.pk_base.specs.declared.refusal.Refusal.TheVariants.{MarkDeleted}
 use Rattle.pk_model.specs.State.{Mark}
-use Rattle.partition.specs.MarkCopy.{IsCopy, mark_of, mark_among}
+use Rattle.pk_model.specs.Step.{mark_among}
+use Rattle.partition.specs.MarkCopy.{IsCopy, mark_of}
 use Rattle.partition.specs.declared.marks.MarkCopy.{MarkCopy}
 use Rattle.partition.proofs.Among.{among_found, found_among, live_mark-live, live_mark-deleted}
 use Rattle.partition.proofs.marks.live_mark.Goals as goal

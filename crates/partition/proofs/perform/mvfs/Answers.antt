@@ -5,8 +5,8 @@ use Rattle.pk_model.specs.Tags.{next_tags}
 use Rattle.pk_model.specs.VertexBodies.{first_outside, mvfs, mvfs_step, mvfs_cost}
 use Rattle.partition.proofs.perform.mvfs.Goals as goal
 
-pub returns : goal.returns
-returns g c =
+pub returns-clause-performs : goal.returns-clause-performs
+returns-clause-performs g c =
     let old = c.args.store.now in
     let next = next_tags old.blocks c.args.used in
     let inside : first_outside c.args.at ≡ None = sym c.in_default.ensures in

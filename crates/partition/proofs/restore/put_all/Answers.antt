@@ -2,8 +2,8 @@ use Rattle.std.proofs.Common.{◌+◌, get_or, drop, sym, ap, subst, ◌∙◌, 
 use Rattle.std.proofs.lemmas.List.{drop_all}
 use Rattle.pk_base.specs.declared.entity.Entity.TheVariants.{Body}
 use Rattle.pk_model.specs.Tags.{tag}
+use Rattle.pk_model.proofs.TagLists.{ByRecursion-get_or}
 use Rattle.entity_store.specs.Store.{IsHosted, Stored}
-use Rattle.entity_store.proofs.Slots.{all_at}
 use Rattle.partition.specs.Copies.{with_all}
 use Rattle.partition.proofs.Restored.{put_next}
 use Rattle.partition.proofs.restore.put_all.Goals as goal
@@ -11,7 +11,7 @@ use Rattle.partition.proofs.restore.put_all.Goals as goal
 pub put-requires : goal.put-requires
 put-requires g c =
     let p = get_or c.args.entities.now c.loop-tag.tag-index (tag 0, Body (tag 0)) in
-    let at = all_at (λ p. IsHosted c.args.store.now.blocks p.0 p.1) c.args.entities.now c.loop-tag.tag-index (tag 0, Body (tag 0)) (omega arith) c.requires in
+    let at = ByRecursion-get_or (λ p. IsHosted c.args.store.now.blocks p.0 p.1) c.args.entities.now c.loop-tag.tag-index (tag 0, Body (tag 0)) (omega arith) c.requires in
     let hosted = subst (λ bs. IsHosted bs p.0 p.1) (sym c.loop-tag.invariant.blocks) at in
     record { owned = hosted.owned; hosted = hosted }
 
@@ -21,9 +21,10 @@ loop-tag-preserved g c = record {
   map = ap (λ (s : Stored). with_all s.map (drop (c.loop-tag.tag-index + 1) c.args.entities.now)) c.put.ensures.value
       ∙ put_next c.loop-tag.store.map c.args.entities.now c.loop-tag.tag-index (tag 0, Body (tag 0)) (omega arith)
       ∙ c.loop-tag.invariant.map;
+  cost = omega arith;
 }
 
-pub returns : goal.returns
-returns g c =
+pub returns-clause-value : goal.returns-clause-value
+returns-clause-value g c =
     let map = ap (with_all c.loop-tag.store.map) (sym (drop_all c.loop-tag.tag-index c.args.entities.now (omega arith))) ∙ c.loop-tag.invariant.map in
     λ i. record { blocks = c.loop-tag.invariant.blocks i; map = map i }

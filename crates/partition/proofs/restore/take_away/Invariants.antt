@@ -1,4 +1,4 @@
-use Rattle.std.proofs.Common.{◌≡◌, drop}
+use Rattle.std.proofs.Common.{◌≡◌, ◌+◌, drop}
 use Rattle.partition.specs.Copies.{without_all}
 use Rattle.partition.proofs.restore.take_away.Given as goal
 
@@ -6,4 +6,5 @@ abbrev pub invariant-loop-tag : goal.invariant-loop-tag
 invariant-loop-tag g l = record {
   blocks : l.store.blocks ≡ l.initial.store.blocks;
   map : without_all l.store.map (drop l.tag-index l.tags) ≡ without_all l.initial.store.map l.tags;
+  cost : l.steps ≡ l.initial.steps + l.tag-index;
 }

@@ -1,8 +1,7 @@
-use Rattle.std.proofs.Common.{◌<◌, ◌++◌, [], ◌∷◌, length, refl, ap, ◌∙◌, arith}
-use Rattle.std.proofs.lemmas.List.{append_assoc}
+use Rattle.std.proofs.Common.{◌<◌, ◌++◌, [], ◌∷◌, length, refl, ◌∙◌, arith}
 use Rattle.pk_base.specs.Plain.{plain_act}
-use Rattle.script_runner.specs.declared.report.Line.{Line}
-use Rattle.script_runner.proofs.Doing.{does_next, next_act, room_left, tells_keeps}
+use Rattle.script_text.specs.declared.report.Line.{Line}
+use Rattle.script_runner.proofs.Doing.{does_next, next_act, one_line_more, room_left, tells_keeps}
 use Rattle.script_runner.proofs.execute.do_acts.Goals as goal
 
 pub loop-line-preserved : goal.loop-line-preserved
@@ -20,6 +19,6 @@ loop-line-preserved g c =
     let new = c.answer_to.new.partition in
     let tells = c.in_ok-answer.ensures in
     let keeps = tells_keeps old new act _ next.built tells in
-    let items = c.in_ok-push.ensures.items ∙ ap (λ ls. ls ++ told ∷ []) h.1.1.1.0 ∙ append_assoc c.args.said.now.items more (told ∷ []) in
+    let items = one_line_more c.args.said.now.items c.loop-line.said.items c.push.new.self.items more told c.in_ok-push.ensures.items h.1.1.1.0 in
     let does = does_next c.args.partition.now old new acts k line act more told next refl h.1.1.1.1 tells in
     (keeps.holder ∙ h.0, (room_left old.state new.state (length acts) k keeps less h.1.0, (more ++ told ∷ [], (items, does))))

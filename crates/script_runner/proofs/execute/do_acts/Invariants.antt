@@ -1,7 +1,7 @@
 use Rattle.std.proofs.Common.{◌≡◌, ◌-◌, ◌++◌, List, length, map, take, Some}
-use Rattle.script_runner.specs.Plain.{plain_line}
+use Rattle.script_text.specs.Plain.{plain_line}
 use Rattle.script_runner.specs.Runs.{Does, HasRoom}
-use Rattle.script_runner.specs.declared.report.Line.{Line}
+use Rattle.script_text.specs.declared.report.Line.{Line}
 use Rattle.script_runner.proofs.execute.do_acts.Given as goal
 
 abbrev pub invariant-loop-line : goal.invariant-loop-line

@@ -1,5 +1,5 @@
 use Rattle.pk_model.specs.VertexBodies.{vertex_bodies}
-use Rattle.script_runner.specs.LegalReport.{LegalReport}
+use Rattle.script_text.specs.LegalReport.{LegalReport}
 use Rattle.script_runner.specs.Run.{IsLawful}
 use Rattle.script_runner.proofs.Reports.{if_ok_is, run_lawful, run_legal}
 use Rattle.script_runner.proofs.execute.execute.Goals as goal

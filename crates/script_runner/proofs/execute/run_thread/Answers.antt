@@ -1,7 +1,7 @@
 use Rattle.std.proofs.Common.{map, sym, subst}
 use Rattle.std.specs.Prelude.{IfOk}
 use Rattle.pk_base.specs.Plain.{plain_entry}
-use Rattle.script_runner.specs.Plain.{plain_line}
+use Rattle.script_text.specs.Plain.{plain_line}
 use Rattle.script_runner.specs.Runs.{IsRunOf}
 use Rattle.script_runner.proofs.execute.run_thread.Goals as goal
 

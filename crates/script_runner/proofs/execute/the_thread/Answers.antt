@@ -1,9 +1,9 @@
 use Rattle.std.proofs.Common.{◌≡◌, List, get_or, sym, ap, subst, ◌∙◌}
-use Rattle.script_runner.specs.Reading.{script_of_thread}
+use Rattle.script_text.specs.Form.{script_of_thread}
 use Rattle.script_runner.specs.Run.{IsOneThread}
-use Rattle.script_runner.specs.declared.script.Script.{Script}
-use Rattle.script_runner.specs.declared.script.ScriptLine.{ScriptLine}
-use Rattle.script_runner.proofs.PlainLines.{plain_lines_are}
+use Rattle.script_text.specs.declared.script.Script.{Script}
+use Rattle.script_text.specs.declared.script.ScriptLine.{ScriptLine}
+use Rattle.script_text.proofs.PlainLines.{plain_lines_are}
 use Rattle.script_runner.proofs.execute.the_thread.Goals as goal
 
 -- the lines borrowed are those of the form

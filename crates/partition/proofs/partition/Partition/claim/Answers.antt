@@ -2,7 +2,7 @@ use Rattle.std.proofs.Common.{◌≡◌, None, [], ◌∷◌, ◌++◌, ap, refl
 use Rattle.pk_base.specs.declared.act.Entry.TheVariants.{Claimed}
 use Rattle.partition.specs.Partition.{PartitionView}
 use Rattle.partition.specs.Inside.{state_of}
-use Rattle.partition.proofs.Steps.{step-claimed}
+use Rattle.pk_model.proofs.Steps.{step-claimed}
 use Rattle.partition.proofs.Valid.{valid_after}
 use Rattle.partition.proofs.partition.Partition.claim.Goals as goal
 

@@ -22,24 +22,24 @@ invariant_of-self-2 g c =
     let copy : MarkCopy = record { tag = c.tag_in-tag.result; parent = Some p.at; entities = c.in_ok-entities.entities; live = true } in
     let spare = subst (λ (v : PartitionView). 0 < spare_of v.state.blocks v.state.used) (sym c.self.view_is) c.requires.enough in
     let place = rw c.blocks-2.ensures.value at c.tag_in-tag.ensures in
-    let stands = ap (λ es. from_entries es) c.in_ok-entities.ensures ∙ from_entries-entries p.store.map in
+    let stands = ap (λ es. from_entries es) c.in_ok-entities.ensures.value ∙ from_entries-entries p.store.map in
     let leads = mark_leads p.store p.store p.marks.items p.at p.used p.holder t c.unwrap-thread.ensures copy spare refl place refl stands refl in
     let grown = c.push_reserved-2.ensures.items ∙ ap (λ j. j ++ Did t act.Mark ∷ []) c.in_ok-reserve.ensures.items in
     let marks : c.push_reserved.new.self.items ≡ p.marks.items ++ copy ∷ [] = c.push_reserved.ensures.items ∙ ap (λ ks. ks ++ copy ∷ []) c.in_ok-reserve-2.ensures.items in
-    let one : AllByRecursion (IsCopy p.store.blocks) (copy ∷ []) = (copied p.store.blocks p.store.map copy c.in_ok-entities.ensures c.blocks-2.ensures.hosted, tt) in
+    let one : AllByRecursion (IsCopy p.store.blocks) (copy ∷ []) = (copied p.store.blocks p.store.map copy c.in_ok-entities.ensures.value c.blocks-2.ensures.hosted, tt) in
     let copies = ByRecursion-append (IsCopy p.store.blocks) p.marks.items (copy ∷ []) c.self.invariant.copies one in
     rw marks (valid_after p.number p.store p.store p.marks.items (p.marks.items ++ copy ∷ []) p.at c.tag_in-tag.result p.used (p.used + 1) p.holder p.holder p.journal.items _ (Did t act.Mark) (Some (Ok (reply.Made (bare (copy.tag ∷ []))))) _ _
     c.self.invariant leads grown refl copies
     (λ h. omega (arith, c.in_ok-reserve.ensures.ok, c.in_ok-reserve.ensures.len, c.push_reserved-2.ensures.capacity, p.journal.ok.0, c.reserve.new.self.ok.0)))
 
-pub returns : goal.returns
-returns g c =
+pub returns-clause-answers : goal.returns-clause-answers
+returns-clause-answers g c =
     let p = c.self.inside in
     let t = c.unwrap-thread.result in
     let copy : MarkCopy = record { tag = c.tag_in-tag.result; parent = Some p.at; entities = c.in_ok-entities.entities; live = true } in
     let spare = subst (λ (v : PartitionView). 0 < spare_of v.state.blocks v.state.used) (sym c.self.view_is) c.requires.enough in
     let place = rw c.blocks-2.ensures.value at c.tag_in-tag.ensures in
-    let stands = ap (λ es. from_entries es) c.in_ok-entities.ensures ∙ from_entries-entries p.store.map in
+    let stands = ap (λ es. from_entries es) c.in_ok-entities.ensures.value ∙ from_entries-entries p.store.map in
     let leads = mark_leads p.store p.store p.marks.items p.at p.used p.holder t c.unwrap-thread.ensures copy spare refl place refl stands refl in
     let grown = c.push_reserved-2.ensures.items ∙ ap (λ j. j ++ Did t act.Mark ∷ []) c.in_ok-reserve.ensures.items in
     let marks : c.push_reserved.new.self.items ≡ p.marks.items ++ copy ∷ [] = c.push_reserved.ensures.items ∙ ap (λ ks. ks ++ copy ∷ []) c.in_ok-reserve-2.ensures.items in

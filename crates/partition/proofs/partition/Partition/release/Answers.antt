@@ -1,7 +1,7 @@
 use Rattle.std.proofs.Common.{None, refl}
 use Rattle.pk_base.specs.declared.act.Entry.TheVariants.{Released}
 use Rattle.partition.specs.Inside.{state_of}
-use Rattle.partition.proofs.Steps.{step-released}
+use Rattle.pk_model.proofs.Steps.{step-released}
 use Rattle.partition.proofs.Valid.{valid_after}
 use Rattle.partition.proofs.partition.Partition.release.Goals as goal
 

@@ -1,0 +1,12 @@
+//! Where a program's bytes come from and where they go: sources, sinks, and reading and writing all.
+#![tactic(auto)]
+
+pub use memory::{MemSink, MemSource};
+pub use outside::{Failed, Sink, Source};
+pub use standard::{StdinSource, StdoutSink};
+pub use transfer::{MOST_INPUT, ReadNo, read_all, write_all};
+
+mod memory;
+mod outside;
+mod standard;
+mod transfer;

@@ -1,0 +1,40 @@
+// The scripts of `examples/` beside the first one, with their reports, which were written by hand.
+use crate::Status;
+
+/// A script, its report, and how its run ends.
+pub const EXAMPLES: [(&str, &str, Status); 5] = [
+    (BRANCHES_SCRIPT, BRANCHES_REPORT, Status::Done),
+    (UNDO_SCRIPT, UNDO_REPORT, Status::Done),
+    (REFUSALS_SCRIPT, REFUSALS_REPORT, Status::SomeRefused),
+    (NOTHING_SCRIPT, NOTHING_REPORT, Status::Done),
+    (TWELVE_SCRIPT, TWELVE_REPORT, Status::Done),
+];
+
+const BRANCHES_SCRIPT: &str =
+    "session 1 1\nthread\nlock 1\n1 mvfs 0 0 0\n1 mark\n1 mvfs 1 0 0\n1 mark\n1 goto 70\n1 mvfs 2 0 0\n1 mark\n1 goto 76\n1 goto 82\n1 goto 64\nend\n";
+
+const BRANCHES_REPORT: &str =
+    "report 1 1\nthread 1\n3 locked\n4 made 65-69\n5 made 70\n6 made 71-75\n7 made 76\n8 went fresh - gone 71-75 changed -\n9 made 77-81\n10 made 82\n11 went fresh 71-75 gone 77-81 changed -\n12 went fresh 77-81 gone 71-75 changed -\n13 went fresh - gone 65-69 77-81 changed -\n14 ended 1\npartition 1\nclaimed 1\ndid 1 mvfs 0 0 0\ndid 1 mark\ndid 1 mvfs 1 0 0\ndid 1 mark\ndid 1 goto 70\ndid 1 mvfs 2 0 0\ndid 1 mark\ndid 1 goto 76\ndid 1 goto 82\ndid 1 goto 64\nreleased 1\nend\n";
+
+const UNDO_SCRIPT: &str =
+    "session 1 1\nthread\nlock 1\n1 mark\n1 mvfs 0 0 0\n1 mark\n1 mvfs 5 5 5\n1 mark\n1 goto 71\n1 goto 65\n1 goto 77\n1 goto 77\nend\n";
+
+const UNDO_REPORT: &str =
+    "report 1 1\nthread 1\n3 locked\n4 made 65\n5 made 66-70\n6 made 71\n7 made 72-76\n8 made 77\n9 went fresh - gone 72-76 changed -\n10 went fresh - gone 66-70 changed -\n11 went fresh 66-70 72-76 gone - changed -\n12 went fresh - gone - changed -\n13 ended 1\npartition 1\nclaimed 1\ndid 1 mark\ndid 1 mvfs 0 0 0\ndid 1 mark\ndid 1 mvfs 5 5 5\ndid 1 mark\ndid 1 goto 71\ndid 1 goto 65\ndid 1 goto 77\ndid 1 goto 77\nreleased 1\nend\n";
+
+const REFUSALS_SCRIPT: &str =
+    "session 1 1\nthread\nlock 1\n1 mvfs 1048577 0 0\n1 mvfs 0 -1048577 2000000\n1 mvfs 1048576 0 -1048576\n1 goto 128\n1 goto 65\n1 goto 63\n1 mark\n1 goto 64\nend\n";
+
+const REFUSALS_REPORT: &str =
+    "report 1 1\nthread 1\n3 locked\n4 refused 3 OutOfRange 1048577\n5 refused 3 OutOfRange -1048577\n6 made 65-69\n7 refused 18 NotOurs 128\n8 refused 19 NotAMark 65\n9 refused 18 NotOurs 63\n10 made 70\n11 went fresh - gone 65-69 changed -\n12 ended 1\npartition 1\nclaimed 1\ndid 1 mvfs 1048577 0 0\ndid 1 mvfs 0 -1048577 2000000\ndid 1 mvfs 1048576 0 -1048576\ndid 1 goto 128\ndid 1 goto 65\ndid 1 goto 63\ndid 1 mark\ndid 1 goto 64\nreleased 1\nend\n";
+
+const NOTHING_SCRIPT: &str = "session 1 1\nthread\nlock 1\nend\n";
+
+const NOTHING_REPORT: &str =
+    "report 1 1\nthread 1\n3 locked\n4 ended 1\npartition 1\nclaimed 1\nreleased 1\nend\n";
+
+const TWELVE_SCRIPT: &str =
+    "session 1 1\nthread\nlock 1\n1 mvfs -0 007 1000\n1 mvfs 1 0 0\n1 mvfs 2 0 0\n1 mvfs 3 0 0\n1 mvfs 4 0 0\n1 mvfs 5 0 0\n1 goto 0064\n1 mvfs 6 0 0\n1 mvfs 7 0 0\n1 mvfs 8 0 0\n1 mvfs 9 0 0\n1 goto 64\nend\n";
+
+const TWELVE_REPORT: &str =
+    "report 1 1\nthread 1\n3 locked\n4 made 65-69\n5 made 70-74\n6 made 75-79\n7 made 80-84\n8 made 85-89\n9 made 90-94\n10 went fresh - gone 65-94 changed -\n11 made 95-99\n12 made 100-104\n13 made 105-109\n14 made 110-114\n15 went fresh - gone 95-114 changed -\n16 ended 1\npartition 1\nclaimed 1\ndid 1 mvfs 0 7 1000\ndid 1 mvfs 1 0 0\ndid 1 mvfs 2 0 0\ndid 1 mvfs 3 0 0\ndid 1 mvfs 4 0 0\ndid 1 mvfs 5 0 0\ndid 1 goto 64\ndid 1 mvfs 6 0 0\ndid 1 mvfs 7 0 0\ndid 1 mvfs 8 0 0\ndid 1 mvfs 9 0 0\ndid 1 goto 64\nreleased 1\nend\n";

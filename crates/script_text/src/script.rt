@@ -1,0 +1,99 @@
+ghost use Rattle.std.specs.Prelude.{◌≡◌, map};
+ghost use Rattle.script_text.specs.Plain.{plain_script_line};
+
+use crate::Items;
+use pk_base::{Act, Name, Tag};
+use std::marker::Model;
+use thiserror::Error;
+
+/// Why bytes are no script.
+#[derive(Clone, Copy, Debug, PartialEq, Eq, Error)]
+pub enum Cause {
+    /// The line is not of the form that is read so far.
+    #[error("NotBuilt")]
+    NotBuilt,
+}
+
+/// A script: partitions 1 to `n`, tag blocks 1 to `last`, the schedule's turns, and the lines of each thread.
+#[derive(Debug, Drop)]
+pub struct Script {
+    pub n: u32,
+    pub last: u32,
+    pub schedule: TurnList,
+    pub threads: ThreadList,
+}
+
+/// The numbers of threads, in the order of their turns.
+pub type TurnList = Items<u32>;
+
+/// The lines of each thread.
+pub type ThreadList = Items<LineList>;
+
+/// The lines of one thread, which contracts see with no spare room in the lists of their acts.
+#[derive(Debug, Drop)]
+pub struct LineList {
+    lines: Vec<ScriptLine>,
+}
+
+impl Model for LineList {
+    ghost use Rattle.std.specs.Prelude.{List, map};
+    ghost use Rattle.script_text.specs.declared.script.ScriptLine.{ScriptLine};
+
+    ghost Value = { List ScriptLine };
+
+    ghost use Rattle.script_text.specs.Plain.{plain_script_line};
+
+    ghost view = { λ l. map plain_script_line l.lines.items };
+}
+
+impl LineList {
+    pub(crate) fn of(lines: Vec<ScriptLine>) -> LineList
+        ensures { result ≡ map plain_script_line lines.items }
+    {
+        LineList { lines }
+    }
+
+    /// The lines, in order.
+    pub fn as_slice(&self) -> &[ScriptLine]
+        ensures { map plain_script_line result.now ≡ self.now }
+    {
+        self.lines.as_slice()
+    }
+}
+
+/// A line of a thread, and its number in the input, from 1.
+#[derive(Debug, Drop)]
+pub struct ScriptLine {
+    pub number: u32,
+    pub order: Order,
+}
+
+/// What a line asks for.
+#[derive(Debug, Drop)]
+pub enum Order {
+    /// The thread claims this partition.
+    Lock(u32),
+    /// The thread releases this partition.
+    Unlock(u32),
+    /// The thread releases all partitions that it holds, and is done.
+    End,
+    /// The act is done in this partition. `operands` are its tag operands from left to right; the act has `Tag(0)` in the
+    /// place of a named one. `bind` is the name that an answer with a list is bound to.
+    On {
+        partition: u32,
+        act: Act,
+        operands: OperandList,
+        bind: Option<Name>,
+    },
+}
+
+/// The tag operands of an act.
+pub type OperandList = Items<Operand>;
+
+/// A tag operand: a number, or the tag at place `at` of the list that a name is bound to.
+#[derive(Clone, Copy, Debug, PartialEq, Eq)]
+pub enum Operand {
+    Digits(Tag),
+    /// The place is counted from 0.
+    Named { name: Name, at: u32 },
+}
