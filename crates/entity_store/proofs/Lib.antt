@@ -1,4 +1,4 @@
 pub mod Slots
 pub mod MapOf
 pub mod Places
-pub mod Kept
+pub mod KeptSlots

@@ -4,7 +4,8 @@ use Rattle.std.specs.Ordering.{eq_by_cmp}
 use Rattle.std.specs.FinMap.{empty, get, len, find, from_entries, get-from_entries, get-insert, get-remove, same_map, len-insert, len-empty}
 use Rattle.pk_base.specs.declared.tag.Tag.{Tag}
 use Rattle.pk_base.specs.declared.entity.Entity.{Entity}
-use Rattle.pk_model.specs.Tags.{tag, tag_at, tags_of, owns, Ascends}
+use Rattle.pk_base.specs.Blocks.{tag}
+use Rattle.pk_model.specs.Tags.{tag_at, tags_of, owns, Ascends}
 use Rattle.pk_model.specs.Maps.{tag_cmp, with_entity}
 use Rattle.pk_model.proofs.TagLists.{tag_total, tag_antisymmetric, length-tags_of, tags_of-nil, tags_of-append, NoRepeats-tags_of, Contains-owns, ByRecursion-contains}
 use Rattle.entity_store.specs.Store.{live_entries, map_of}

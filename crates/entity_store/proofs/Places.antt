@@ -9,7 +9,8 @@ use Rattle.std.proofs.lemmas.List.Folds.{list_any_at, Any-from_list_any}
 use Rattle.std.proofs.lemmas.Bool.{eq-eqb, eqb-true, cases_lt}
 use Rattle.pk_base.specs.declared.tag.Tag.{Tag}
 use Rattle.pk_base.specs.declared.entity.Entity.{Entity}
-use Rattle.pk_model.specs.Tags.{tag, tag_at, tags_of, owns, Ascends, block_of}
+use Rattle.pk_base.specs.Blocks.{tag, block_of}
+use Rattle.pk_model.specs.Tags.{tag_at, tags_of, owns, Ascends}
 use Rattle.pk_model.specs.Maps.{EntityMap, tag_cmp, with_entity}
 use Rattle.pk_model.proofs.TagLists.{ByRecursion-get_or, tag_total, tag_at-tags_of}
 

@@ -1,8 +1,10 @@
--- What a store holds: its blocks, and a map over their tags.
-use Rattle.std.specs.Prelude.{◌≡◌, ◌≢◌, ℕ, ◌*◌, List, [], ◌∷◌, length, Option, None, Some, IsTrue, MatchOption, ⊤, refl}
+-- What contracts see of a store: what it holds, which is its blocks and a map over their tags, and
+-- how many more blocks it has room for.
+use Rattle.std.specs.Prelude.{◌≡◌, ◌≢◌, ℕ, ◌*◌, ◌/◌, min, List, [], ◌∷◌, length, Option, None, Some, IsTrue, MatchOption, ⊤, refl}
 use Rattle.std.specs.FinMap.{get, len, from_entries}
 use Rattle.pk_base.specs.declared.tag.Tag.{Tag}
 use Rattle.pk_base.specs.declared.entity.Entity.{Entity}
+use Rattle.pk_base.specs.declared.tag.TheConstants.{TAGS_OF_A_BLOCK}
 use Rattle.pk_base.specs.Entity.{owner_of}
 use Rattle.pk_model.specs.Tags.{AreInRange, tags_of, owns, Ascends}
 use Rattle.std.specs.Coded.{Coded, code_by, coded×, coded_list, coded_ℕ}
@@ -13,8 +15,21 @@ pub record Stored : Type 0 where
   pub blocks : List ℕ
   pub map : EntityMap
 
+pub record StoreView : Type 0 where
+  pub state : Stored
+  pub reserved : ℕ
+
 abbrev pub stored_code : Coded Stored
-stored_code = code_by (List ℕ × EntityMap) (coded× (coded_list coded_ℕ) map_code) (λ s. (s.blocks, s.map)) (λ p. record { blocks = p.0; map = p.1 }) (λ _. refl)
+stored_code = code_by (List ℕ × EntityMap) (coded× (coded_list coded_ℕ) map_code)
+    (λ s. (s.blocks, s.map)) (λ p. record { blocks = p.0; map = p.1 }) (λ _. refl)
+
+abbrev pub view_code : Coded StoreView
+view_code = code_by (Stored × ℕ) (coded× stored_code coded_ℕ) (λ v. (v.state, v.reserved))
+    (λ p. record { state = p.0; reserved = p.1 }) (λ _. refl)
+
+-- how many blocks there is room for, in a list of blocks and in one of slots with so much room left
+abbrev pub room_for : ℕ → ℕ → ℕ
+room_for blocks slots = min blocks (slots / TAGS_OF_A_BLOCK)
 
 -- the tag's block is owned, and so is that of the entity's owner, which is another tag
 pub record IsHosted (blocks : List ℕ) (t : Tag) (e : Entity) : Type 0 where
@@ -39,7 +54,7 @@ stored blocks slots = record { blocks = blocks; map = map_of blocks slots }
 
 -- the slots of the blocks, and how many of them have an entity
 pub record IsKept (blocks : List ℕ) (slots : List (Option Entity)) (live : ℕ) : Type 0 where
-  pub places : length slots ≡ 64 * length blocks
+  pub places : length slots ≡ TAGS_OF_A_BLOCK * length blocks
   pub ascending : Ascends blocks
   pub range : AreInRange blocks
   pub count : live ≡ len (map_of blocks slots)

@@ -3,7 +3,8 @@ ghost use Rattle.std.specs.Prelude.{◌≡◌, ℕ, ◌+◌, ◌<◌};
 use std::marker::Model;
 use std::sync::ledger::{Blank, Book, Ledger, Share};
 
-/// How many slot reads, slot writes and entry reads were made. It takes no bytes, and only `tick` changes it.
+/// How many slot reads, slot writes and entry reads were made. It takes no bytes, and only `tick`
+/// changes it.
 #[derive(Drop)]
 pub struct Steps<L: Ledger> {
     book: Book<L>,

@@ -1,4 +1,4 @@
-ghost use Rattle.std.specs.Prelude.{◌≡◌, ℕ, ◌+◌, ◌*◌, ◌<◌, ◌≤◌, ◌^◌, ◌↔◌, [], ◌∷◌, ◌++◌, length, replicate, vec_len, vec_capacity, if◌then◌else◌, IsTrue, IsSome, IfSome, OnOk, OnErr, option_copied, nat_lt};
+ghost use Rattle.std.specs.Prelude.{◌≡◌, ℕ, ◌+◌, ◌*◌, ◌-◌, ◌<◌, ◌≤◌, ◌^◌, ◌↔◌, [], ◌∷◌, ◌++◌, length, replicate, vec_len, vec_capacity, if◌then◌else◌, IsTrue, IsSome, IfSome, OnOk, OnErr, option_copied, nat_lt};
 ghost use Rattle.std.specs.List.{list_all, AllByRecursion};
 ghost use Rattle.std.specs.FinMap as map;
 ghost use Rattle.pk_model.specs.Tags.{Ascends, AreInRange, owns, tags_of, tag_at};
@@ -6,16 +6,16 @@ ghost use Rattle.pk_model.specs.Maps.{EntityMap, with_entity};
 ghost use Rattle.entity_store.specs.Store.{IsHosted, IfHosted};
 
 use crate::Steps;
-use pk_base::{Entity, NoMemory, Tag};
+use pk_base::{Entity, LAST_BLOCK, NoMemory, TAGS_OF_A_BLOCK, Tag};
 use std::alloc::Global;
 use std::marker::Model;
 use std::sync::ledger::Ledger;
 
-/// How many tags a block has.
-const BLOCK: usize = 64;
+/// How many slots a block has: one for each tag.
+const SLOTS_OF_A_BLOCK: usize = TAGS_OF_A_BLOCK as usize;
 
-/// Entities by their tags, in blocks of 64 that were added in ascending order. At every moment the owner of each is another
-/// tag of an owned block.
+/// Entities by their tags, in blocks of 64 that were added in ascending order. At every moment the
+/// owner of each is another tag of an owned block.
 #[derive(Drop)]
 pub struct Store {
     // The block numbers ascend, and each has its 64 slots in their place.
@@ -25,22 +25,26 @@ pub struct Store {
 }
 
 impl Model for Store {
-    ghost use Rattle.entity_store.specs.Store.{Stored, stored_code, stored, IsKept};
+    ghost use Rattle.std.specs.Prelude.{◌-◌, vec_len, vec_capacity};
+    ghost use Rattle.entity_store.specs.Store.{StoreView, view_code, stored, room_for, IsKept};
 
-    ghost Value = { Stored };
+    ghost Value = { StoreView };
 
-    ghost coded = { stored_code };
+    ghost coded = { view_code };
 
-    ghost view = { λ s. stored s.blocks.items s.slots.items };
+    ghost view = { λ s. record {
+      state = stored s.blocks.items s.slots.items;
+      reserved = room_for (vec_capacity s.blocks - vec_len s.blocks) (vec_capacity s.slots - vec_len s.slots);
+    } };
 
     ghost invariant = { λ s. IsKept s.blocks.items s.slots.items s.live };
 }
 
 impl Store {
-    /// An empty store, which owns no block.
+    /// An empty store, which owns no block. It takes no memory.
     pub fn new(alloc: Global) -> Store
-        ensures blocks { result.blocks ≡ [] }
-        ensures map { result.map ≡ map.empty }
+        ensures blocks { result.state.blocks ≡ [] }
+        ensures map { result.state.map ≡ map.empty }
     {
         Store {
             blocks: Vec::new(alloc),
@@ -49,49 +53,73 @@ impl Store {
         }
     }
 
-    /// Adds a block with no entity in it. Without memory nothing changes.
+    /// Adds a block with no entity in it. Without memory its state is as it was.
     pub fn add_block(&mut self, b: u32) -> Result<(), NoMemory>
-        requires above { IsTrue (list_all (λ o. nat_lt o b) self.old.blocks) }
+        requires above { IsTrue (list_all (λ o. nat_lt o b) self.old.state.blocks) }
         requires first { 1 ≤ b }
-        requires last { b ≤ 262143 }
-        ensures ok { OnOk result (self.new ≡ record self.old { blocks = self.old.blocks ++ b ∷ [] }) }
-        ensures err { OnErr result (self.new ≡ self.old) }
+        requires last { b ≤ LAST_BLOCK }
+        ensures ok { OnOk result (self.new.state
+            ≡ record self.old.state { blocks = self.old.state.blocks ++ b ∷ [] }) }
+        ensures err { OnErr result (self.new.state ≡ self.old.state) }
+    {
+        self.reserve_block()?;
+        self.add_reserved(b);
+        Ok(())
+    }
+
+    /// Takes the room for one block at least. Its state is as it was, also without memory.
+    pub fn reserve_block(&mut self) -> Result<(), NoMemory>
+        ensures room { OnOk result (1 ≤ self.new.reserved) }
+        ensures state { self.new.state ≡ self.old.state }
     {
         self.blocks.reserve(1)?;
-        self.slots.reserve(BLOCK)?;
+        self.slots.reserve(SLOTS_OF_A_BLOCK)?;
+        Ok(())
+    }
+
+    /// Adds a block with no entity in it, in room taken before. It takes no memory.
+    pub fn add_reserved(&mut self, b: u32)
+        requires room { 1 ≤ self.old.reserved }
+        requires above { IsTrue (list_all (λ o. nat_lt o b) self.old.state.blocks) }
+        requires first { 1 ≤ b }
+        requires last { b ≤ LAST_BLOCK }
+        ensures state { self.new.state ≡ record self.old.state
+            { blocks = self.old.state.blocks ++ b ∷ [] } }
+        ensures room { self.new.reserved + 1 ≡ self.old.reserved }
+    {
         self.blocks.push_reserved(b);
         add_slots(&mut self.slots);
-        Ok(())
     }
 
     /// The blocks owned, ascending.
     pub fn blocks(&self) -> &[u32]
-        ensures value { result.now ≡ self.now.blocks }
-        ensures ascending { Ascends self.now.blocks }
-        ensures range { AreInRange self.now.blocks }
+        ensures value { result.now ≡ self.now.state.blocks }
+        ensures ascending { Ascends self.now.state.blocks }
+        ensures range { AreInRange self.now.state.blocks }
         // Each entity stands in an owned block, and so does its owner, which is another tag.
-        ensures hosted { (t : Tag) (e : Entity) → map.get self.now.map t ≡ Some e → IsHosted self.now.blocks t e }
+        ensures hosted { (t : Tag) (e : Entity) → map.get self.now.state.map t ≡ Some e
+            → IsHosted self.now.state.blocks t e }
     {
         &self.blocks
     }
 
-    /// Whether the tag's block is owned.
+    /// Whether the tag's block is owned. It takes no memory.
     pub fn owns(&self, tag: Tag) -> bool
-        ensures { result ≡ owns self.now.blocks tag }
+        ensures { result ≡ owns self.now.state.blocks tag }
     {
         slot_of(&self.blocks, tag).is_some()
     }
 
-    /// How many entities are live.
+    /// How many entities are live. It takes no memory.
     pub fn len(&self) -> usize
-        ensures { result ≡ map.len self.now.map }
+        ensures { result ≡ map.len self.now.state.map }
     {
         self.live
     }
 
     /// The entity at a tag. One step.
     pub fn get<L: Ledger>(&self, tag: Tag, steps: &mut Steps<L>) -> Option<&Entity>
-        ensures value { option_copied result ≡ map.get self.now.map tag }
+        ensures value { option_copied result ≡ map.get self.now.state.map tag }
         ensures cost { steps.new ≡ steps.old + 1 }
     {
         steps.tick();
@@ -101,9 +129,11 @@ impl Store {
 
     /// Sets the entity at a tag, or takes it away. One step. It takes no memory.
     pub fn put<L: Ledger>(&mut self, tag: Tag, to: Option<Entity>, steps: &mut Steps<L>)
-        requires owned { IsTrue (owns self.old.blocks tag) }
-        requires hosted { IfHosted self.old.blocks tag to }
-        ensures value { self.new ≡ record self.old { map = with_entity self.old.map tag to } }
+        requires owned { IsTrue (owns self.old.state.blocks tag) }
+        requires hosted { IfHosted self.old.state.blocks tag to }
+        ensures state { self.new.state ≡ record self.old.state
+            { map = with_entity self.old.state.map tag to } }
+        ensures room { self.new.reserved ≡ self.old.reserved }
         ensures cost { steps.new ≡ steps.old + 1 }
     {
         steps.tick();
@@ -116,13 +146,13 @@ impl Store {
 /// Where the slot of a tag stands.
 fn slot_of(blocks: &[u32], tag: Tag) -> Option<usize>
     requires ascending { Ascends blocks.now }
-    requires fits { 64 * length blocks.now < 2 ^ 64 }
+    requires fits { TAGS_OF_A_BLOCK * length blocks.now < 2 ^ 64 }
     ensures variant { IsSome result ↔ IsTrue (owns blocks.now tag) }
-    ensures within { IfSome result (λ i. i < 64 * length blocks.now) }
+    ensures within { IfSome result (λ i. i < TAGS_OF_A_BLOCK * length blocks.now) }
     ensures place { IfSome result (λ i. tag_at (tags_of blocks.now) i ≡ tag) }
 {
-    match blocks.binary_search(&(tag.0 / 64)) {
-        Ok(place) => Some(64 * place + (tag.0 % 64) as usize),
+    match blocks.binary_search(&tag.block()) {
+        Ok(place) => Some(SLOTS_OF_A_BLOCK * place + (tag.0 % TAGS_OF_A_BLOCK) as usize),
         Err(_) => None,
     }
 }
@@ -138,10 +168,11 @@ fn recount(live: usize, before: bool, after: bool) -> usize
 
 /// Adds the empty slots of a block.
 fn add_slots(slots: &mut Vec<Option<Entity>>)
-    requires { vec_len slots.old + 64 ≤ vec_capacity slots.old }
-    ensures { slots.new.items ≡ slots.old.items ++ replicate 64 None }
+    requires { vec_len slots.old + TAGS_OF_A_BLOCK ≤ vec_capacity slots.old }
+    ensures items { slots.new.items ≡ slots.old.items ++ replicate TAGS_OF_A_BLOCK None }
+    ensures room { vec_capacity slots.new ≡ vec_capacity slots.old }
 {
-    for _ in 0..BLOCK {
+    for _ in 0..SLOTS_OF_A_BLOCK {
         slots.push_reserved(None);
     }
 }

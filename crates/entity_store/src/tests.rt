@@ -40,7 +40,8 @@ fn play<L: Ledger, R: Abort>(rt: &R, alloc: Global, blank: Blank) -> Result<(), 
     let mut store = Store::new(alloc);
     assert_eq!(rt; store.len(), 0);
     store.add_block(1)?;
-    store.add_block(3)?;
+    store.reserve_block()?;
+    store.add_reserved(3);
     assert_eq!(rt; store.blocks(), [1, 3].as_slice());
     for (tag, owned) in [
         (63, false),

@@ -5,7 +5,8 @@ use Rattle.std.proofs.lemmas.Bool.{eqb-true}
 use Rattle.pk_base.specs.Entity.{same_tag}
 use Rattle.pk_base.specs.declared.tag.Tag.{Tag}
 use Rattle.pk_base.specs.declared.refusal.Refusal.TheVariants.{NotOurs, MarkDeleted}
-use Rattle.pk_model.specs.Tags.{tag, owns}
+use Rattle.pk_base.specs.Blocks.{tag}
+use Rattle.pk_model.specs.Tags.{owns}
 use Rattle.pk_model.specs.State.{Mark}
 use Rattle.pk_model.specs.Step.{live_mark, mark_among}
 use Rattle.partition.specs.MarkCopy.{mark_of}

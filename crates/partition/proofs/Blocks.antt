@@ -3,7 +3,8 @@ use Rattle.std.proofs.Common.{◌≡◌, ◌≢◌, ℕ, zero, suc, ◌+◌, ◌
 use Rattle.std.specs.List.{AllByRecursion}
 use Rattle.std.proofs.lemmas.List.Elements.{Contains-get_or}
 use Rattle.pk_base.specs.declared.tag.Tag.{Tag}
-use Rattle.pk_model.specs.Tags.{tag, Ascends, AreInRange, owns, next_tags, tag_at, tags_of}
+use Rattle.pk_base.specs.Blocks.{tag}
+use Rattle.pk_model.specs.Tags.{Ascends, AreInRange, owns, next_tags, tag_at, tags_of}
 use Rattle.pk_model.specs.Apart.{NoRepeats}
 use Rattle.pk_model.proofs.TagLists.{ByRecursion-get_or, length-tags_of, NoRepeats-tags_of, Contains-owns, tag_at-next_tags}
 use Rattle.partition.specs.BodyTags.{AreBodyTags, next_body_tags}

@@ -2,7 +2,7 @@
 use Rattle.std.proofs.Common.{◌≡◌, ℕ, ◌+◌, ◌<◌, Bool, true, false, cond, is_none, is_some, not, option_copied, Bor, List, [], ◌∷◌, ◌++◌, map, filter, length, get_or, take, Option, None, Some, T, sym, ap, refl, subst, ◌∙◌, append_assoc}
 use Rattle.std.specs.List.{AllByRecursion}
 use Rattle.std.specs.Ordering.{eq_by_cmp, is_lt}
-use Rattle.std.specs.FinMap.{get, find, is_sorted, entries, from_entries, from_sorted, len, len-entries, entries-from_sorted, get-from_sorted, get-from_entries, same_map}
+use Rattle.std.specs.FinMap.{get, find, is_sorted, entries, from_entries, from_sorted, entries-from_sorted, get-from_sorted, get-from_entries, same_map}
 use Rattle.std.specs.FinMap.Entries.{below_all}
 use Rattle.std.proofs.lemmas.Bool.{and_parts}
 use Rattle.std.proofs.lemmas.List.{take_more, map-append}
@@ -45,9 +45,6 @@ entries-from_ascending to s =
     let sorted = subst T (sym s) tt in
     let same = same_map tag_total tag_antisymmetric (from_entries to) (from_sorted to) (λ q. get-from_entries tag_total to q ∙ sym (get-from_sorted tag_cmp to q sorted)) in
     ap entries same ∙ entries-from_sorted tag_cmp to sorted
-
-pub len-from_ascending : (to : List (Tag × Entity)) → is_sorted tag_cmp to ≡ true → len (from_entries {R = tag_cmp} to) ≡ length to
-len-from_ascending to s = len-entries (from_entries to) ∙ ap length (entries-from_ascending to s)
 
 later_found : (p : Tag × Entity) (ps rs : List (Tag × Entity)) → below_all tag_cmp p.0 rs ≡ true → AllByRecursion (λ r. find tag_cmp r.0 ps ≡ Some r.1) rs → AllByRecursion (λ r. find tag_cmp r.0 (p ∷ ps) ≡ Some r.1) rs
 later_found p ps [] b h = tt

@@ -12,7 +12,7 @@ use Rattle.std.proofs.lemmas.List.Sorted.{searchable_from_sorted}
 use Rattle.pk_base.specs.declared.tag.Tag.{Tag}
 use Rattle.pk_base.specs.declared.entity.Entity.{Entity}
 use Rattle.pk_base.specs.declared.entity.Entity.TheVariants.{Body}
-use Rattle.pk_model.specs.Tags.{tag}
+use Rattle.pk_base.specs.Blocks.{tag}
 use Rattle.pk_model.specs.Maps.{tag_cmp}
 use Rattle.pk_model.proofs.TagLists.{tag_total, tag_antisymmetric, ties_itself, ties_no_other}
 

@@ -1,8 +1,9 @@
 pub mod Blocks
-pub mod Rising
+pub mod Sorted
 pub mod Live
 pub mod Restored
 pub mod Found
 pub mod Differs
 pub mod Among
+pub mod ActReach
 pub mod Valid

@@ -8,11 +8,12 @@ use Rattle.std.proofs.lemmas.List.Folds.{list_any_at}
 use Rattle.std.proofs.lemmas.List.{take_more, take_all}
 use Rattle.pk_base.specs.declared.tag.Tag.{Tag}
 use Rattle.pk_base.specs.declared.entity.Entity.{Entity}
-use Rattle.pk_model.specs.Tags.{tag, Ascends, owns, tags_of, tags_of_block}
+use Rattle.pk_base.specs.Blocks.{tag}
+use Rattle.pk_model.specs.Tags.{Ascends, owns, tags_of, tags_of_block}
 use Rattle.pk_model.specs.Maps.{EntityMap, tag_cmp}
-use Rattle.pk_model.proofs.TagLists.{tag_total, tag_antisymmetric, owns-Contains, tags_of-cons, tags_of-nil, tags_of-append, length-tags_of_block, same_from_tie, ties_itself, block_place}
+use Rattle.pk_model.proofs.TagLists.{tag_total, tag_antisymmetric, owns-Contains, tags_of-cons, tags_of-nil, tags_of-append, length-tags_of_block, same_from_tie, ties_itself, block_place, TagsAscend-tags_of}
 use Rattle.partition.specs.Copies.{live_of}
-use Rattle.partition.proofs.Rising.{Rises-tags_of, sorted_live, live_first}
+use Rattle.partition.proofs.Sorted.{sorted_live, live_first}
 
 live_of-append : (m : EntityMap) (ts us : List Tag) → live_of m (ts ++ us) ≡ live_of m ts ++ live_of m us
 live_of-append m ts us = filter_map-append _ ts us
@@ -49,7 +50,7 @@ live_of_all : (blocks : List ℕ) (m : EntityMap) → Ascends blocks → ((t : T
 live_of_all blocks m up owned =
     let ts = tags_of blocks in
     let es = live_of m ts in
-    let sorted = subst T (sym (sorted_live m ts (Rises-tags_of blocks up))) tt in
+    let sorted = subst T (sym (sorted_live m ts (TagsAscend-tags_of blocks up))) tt in
     let at : (q : Tag) → cond (list_any (eq_by_cmp tag_cmp q) ts) (get m q) None ≡ get m q = λ q.
     elim (get m q) as (λ o. get m q ≡ o → cond (list_any (eq_by_cmp tag_cmp q) ts) o None ≡ o) [
       | None ↦ λ is. sym (found_or_not (list_any (eq_by_cmp tag_cmp q) ts) None refl)

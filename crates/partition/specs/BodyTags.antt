@@ -1,17 +1,18 @@
 -- The tags of a vertex body's parts.
-use Rattle.std.specs.Prelude.{◌≢◌, ℕ, IsTrue, pos, None, Some}
-use Rattle.std.specs.FinMap.{insert}
-use Rattle.pk_base.specs.declared.entity.Point.{Point}
-use Rattle.pk_base.specs.declared.entity.Entity.TheVariants.{Body, Shell, Face, Loop, Vertex}
+use Rattle.std.specs.Prelude.{◌≢◌, ℕ, IsTrue, List}
 use Rattle.pk_model.specs.Tags.{owns, next_tags, tag_at}
-use Rattle.pk_model.specs.Maps.{EntityMap}
 use Rattle.partition.specs.declared.vertex_body.BodyTags.{BodyTags}
-use Rattle.std.specs.Prelude.{List}
 
 abbrev pub next_body_tags : List ℕ → ℕ → BodyTags
 next_body_tags blocks used =
     let tags = next_tags blocks used in
-    record { body = tag_at tags 0; shell = tag_at tags 1; face = tag_at tags 2; loop_ = tag_at tags 3; vertex = tag_at tags 4 }
+    record {
+      body = tag_at tags 0;
+      shell = tag_at tags 1;
+      face = tag_at tags 2;
+      loop_ = tag_at tags 3;
+      vertex = tag_at tags 4;
+    }
 
 -- all are owned, and each part's owner is another tag
 pub record AreBodyTags (blocks : List ℕ) (t : BodyTags) : Type 0 where
@@ -24,11 +25,3 @@ pub record AreBodyTags (blocks : List ℕ) (t : BodyTags) : Type 0 where
   pub face_apart : t.shell ≢ t.face
   pub loop_apart : t.face ≢ t.loop_
   pub vertex_apart : t.body ≢ t.vertex
-
-abbrev pub with_body : EntityMap → BodyTags → Point → EntityMap
-with_body m t point =
-    let m1 = insert m t.body (Body t.shell) in
-    let m2 = insert m1 t.shell (Shell t.body (pos 1)) in
-    let m3 = insert m2 t.face (Face t.shell t.loop_) in
-    let m4 = insert m3 t.loop_ (Loop t.face None (Some t.vertex)) in
-    insert m4 t.vertex (Vertex t.body point)

@@ -1,7 +1,7 @@
 -- In reading order.
 pub mod Partition
 pub mod MarkCopy
+pub mod Contents
 pub mod Copies
-pub mod BodyTags
 pub mod Goes
-pub mod Inside
+pub mod BodyTags

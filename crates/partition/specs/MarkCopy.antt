@@ -9,7 +9,8 @@ use Rattle.partition.specs.declared.marks.MarkCopy.{MarkCopy}
 
 -- the mark stands for the map of the copied entities
 abbrev pub mark_of : MarkCopy → Mark
-mark_of k = record { tag = k.tag; parent = k.parent; map = from_entries k.entities.items; live = k.live }
+mark_of k =
+    record { tag = k.tag; parent = k.parent; map = from_entries k.entities.items; live = k.live }
 
 -- the copied entities ascend by their tags, and each is hosted in these blocks
 pub record IsCopy (blocks : List ℕ) (k : MarkCopy) : Type 0 where

@@ -1,24 +1,20 @@
-ghost use Rattle.std.specs.Prelude.{◌≡◌, ◌+◌, ◌*◌, ◌≤◌, ◌++◌, length, IfOk, OnOk};
+ghost use Rattle.std.specs.Prelude.{◌≡◌, ◌≤◌, ◌++◌, IfOk, OnOk};
 ghost use Rattle.std.specs.FinMap.{entries};
 ghost use Rattle.pk_model.specs.Tags.{tags_of_block};
 ghost use Rattle.partition.specs.Copies.{live_of};
 
 use entity_store::{Steps, Store};
-use pk_base::{Entity, NoMemory, Tag};
+use pk_base::{Entity, LAST_BLOCK, NoMemory, TAGS_OF_A_BLOCK, Tag};
 use std::alloc::Global;
 use std::sync::ledger::Ledger;
 
-/// How many tags a block has.
-const BLOCK: u32 = 64;
-
-/// The entities of a store, ascending by their tags. At most one step for each slot.
+/// The entities of a store, ascending by their tags.
 pub(crate) fn copy_entities<L: Ledger>(
     alloc: Global,
     store: &Store,
     steps: &mut Steps<L>,
 ) -> Result<Vec<(Tag, Entity)>, NoMemory>
-    ensures value { IfOk result (λ copied. copied.items ≡ entries store.now.map) }
-    ensures cost { steps.new ≤ steps.old + 64 * length store.now.blocks }
+    ensures { IfOk result (λ copied. copied.items ≡ entries store.now.state.map) }
 {
     let mut copied = Vec::new(alloc);
     for block in store.blocks() {
@@ -27,19 +23,19 @@ pub(crate) fn copy_entities<L: Ledger>(
     Ok(copied)
 }
 
-/// Adds the entities of one block. At most 64 steps.
+/// Adds the entities of one block.
 fn copy_block<L: Ledger>(
     store: &Store,
     block: u32,
     copied: &mut Vec<(Tag, Entity)>,
     steps: &mut Steps<L>,
 ) -> Result<(), NoMemory>
-    requires { block ≤ 262143 }
-    ensures value { OnOk result (copied.new.items ≡ copied.old.items ++ live_of store.now.map (tags_of_block block)) }
-    ensures cost { steps.new ≤ steps.old + 64 }
+    requires { block ≤ LAST_BLOCK }
+    ensures { OnOk result (copied.new.items
+        ≡ copied.old.items ++ live_of store.now.state.map (tags_of_block block)) }
 {
-    for place in 0..BLOCK {
-        let tag = Tag(BLOCK * block + place);
+    for place in 0..TAGS_OF_A_BLOCK {
+        let tag = Tag(TAGS_OF_A_BLOCK * block + place);
         if let Some(entity) = store.get(tag, steps) {
             copied.push((tag, *entity))?;
         }

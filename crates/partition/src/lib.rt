@@ -1,8 +1,10 @@
-//! A partition: solids that roll back and forward between marks, with the journal of all that was done.
+//! A partition: solids that roll back and forward between marks, with the journal of all that was
+//! done.
 #![tactic(auto)]
 
 pub use partition::Partition;
 
+mod contents;
 mod copies;
 mod difference;
 mod goes;

@@ -29,11 +29,13 @@ pub(crate) fn live_mark<'a>(
     marks: &'a [MarkCopy],
     m: Tag,
 ) -> Result<&'a MarkCopy, Refusal>
-    requires { AllByRecursion (IsCopy store.now.blocks) marks.now }
-    ensures found { IfOk result (λ k. mark_among store.now.blocks (map mark_of marks.now) m ≡ Ok (mark_of k.now)) }
+    requires { AllByRecursion (IsCopy store.now.state.blocks) marks.now }
+    ensures found { IfOk result (λ k. mark_among store.now.state.blocks (map mark_of marks.now) m
+        ≡ Ok (mark_of k.now)) }
     ensures tag { IfOk result (λ k. k.now.tag ≡ m) }
-    ensures copy { IfOk result (λ k. IsCopy store.now.blocks k.now) }
-    ensures refused { IfErr result (λ e. mark_among store.now.blocks (map mark_of marks.now) m ≡ Err e) }
+    ensures copy { IfOk result (λ k. IsCopy store.now.state.blocks k.now) }
+    ensures refused { IfErr result (λ e. mark_among store.now.state.blocks (map mark_of marks.now) m
+        ≡ Err e) }
 {
     if !store.owns(m) {
         return Err(Refusal::NotOurs(m));

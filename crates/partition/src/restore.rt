@@ -1,4 +1,4 @@
-ghost use Rattle.std.specs.Prelude.{◌≡◌, ◌+◌, IsTrue, length};
+ghost use Rattle.std.specs.Prelude.{◌≡◌, IsTrue};
 ghost use Rattle.std.specs.List.{AllByRecursion};
 ghost use Rattle.std.specs.FinMap.{from_entries, is_sorted};
 ghost use Rattle.pk_model.specs.Tags.{owns};
@@ -10,8 +10,8 @@ use entity_store::{Steps, Store};
 use pk_base::{Entity, Tag};
 use std::sync::ledger::Ledger;
 
-/// Brings the store to other entities, which ascend by their tags, where `gone` are the tags that only the store has. One
-/// step for each entity and each tag.
+/// Brings the store to other entities, which ascend by their tags, where `gone` are the tags that
+/// only the store has.
 pub(crate) fn restore<L: Ledger>(
     store: &mut Store,
     gone: &[Tag],
@@ -19,10 +19,9 @@ pub(crate) fn restore<L: Ledger>(
     steps: &mut Steps<L>,
 )
     requires sorted { IsTrue (is_sorted tag_cmp to.now) }
-    requires hosted { AllByRecursion (λ p. IsHosted store.old.blocks p.0 p.1) to.now }
-    requires gone { gone.now ≡ gone_tags store.old.map (from_entries to.now) }
-    ensures value { store.new ≡ record store.old { map = from_entries to.now } }
-    ensures cost { steps.new ≡ steps.old + length gone.now + length to.now }
+    requires hosted { AllByRecursion (λ p. IsHosted store.old.state.blocks p.0 p.1) to.now }
+    requires gone { gone.now ≡ gone_tags store.old.state.map (from_entries to.now) }
+    ensures { store.new.state ≡ record store.old.state { map = from_entries to.now } }
 {
     // Its clauses say that the blocks own the tag of each entity, so also those that are gone.
     let _blocks = store.blocks();
@@ -30,22 +29,22 @@ pub(crate) fn restore<L: Ledger>(
     put_all(store, to, steps);
 }
 
-/// Takes the entities of these tags away. One step for each.
+/// Takes the entities of these tags away.
 fn take_away<L: Ledger>(store: &mut Store, tags: &[Tag], steps: &mut Steps<L>)
-    requires { AllByRecursion (λ t. IsTrue (owns store.old.blocks t)) tags.now }
-    ensures value { store.new ≡ record store.old { map = without_all store.old.map tags.now } }
-    ensures cost { steps.new ≡ steps.old + length tags.now }
+    requires { AllByRecursion (λ t. IsTrue (owns store.old.state.blocks t)) tags.now }
+    ensures { store.new.state ≡ record store.old.state
+        { map = without_all store.old.state.map tags.now } }
 {
     for tag in tags {
         store.put(*tag, None, steps);
     }
 }
 
-/// Puts these entities. One step for each.
+/// Puts these entities.
 fn put_all<L: Ledger>(store: &mut Store, entities: &[(Tag, Entity)], steps: &mut Steps<L>)
-    requires { AllByRecursion (λ p. IsHosted store.old.blocks p.0 p.1) entities.now }
-    ensures value { store.new ≡ record store.old { map = with_all store.old.map entities.now } }
-    ensures cost { steps.new ≡ steps.old + length entities.now }
+    requires { AllByRecursion (λ p. IsHosted store.old.state.blocks p.0 p.1) entities.now }
+    ensures { store.new.state ≡ record store.old.state
+        { map = with_all store.old.state.map entities.now } }
 {
     for (tag, entity) in entities {
         store.put(*tag, Some(*entity), steps);

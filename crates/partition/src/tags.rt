@@ -2,20 +2,21 @@ ghost use Rattle.std.specs.Prelude.{◌≡◌, ◌+◌, ◌*◌, ◌<◌, ◌≤
 ghost use Rattle.std.specs.List.{AllByRecursion};
 ghost use Rattle.pk_model.specs.Tags.{AreInRange, Ascends, next_tags, tag_at, tags_of};
 
-use pk_base::{Tag, TagList};
+use pk_base::{TAGS_OF_A_BLOCK, Tag, TagListBuilder};
 
 /// The tag at a place among those of the blocks.
 pub(crate) fn tag_in(blocks: &[u32], place: u64) -> Tag
-    requires place { place < 64 * length blocks.now }
+    requires place { place < TAGS_OF_A_BLOCK * length blocks.now }
     requires range { AreInRange blocks.now }
     ensures { result ≡ tag_at (tags_of blocks.now) place }
 {
-    Tag(64 * blocks[(place / 64) as usize] + (place % 64) as u32)
+    let tags = u64::from(TAGS_OF_A_BLOCK);
+    Tag(TAGS_OF_A_BLOCK * blocks[(place / tags) as usize] + (place % tags) as u32)
 }
 
 /// Lists the next n tags.
-pub(crate) fn list_next(blocks: &[u32], used: u64, n: u64, made: &mut TagList)
-    requires room { used + n ≤ 64 * length blocks.now }
+pub(crate) fn list_next(blocks: &[u32], used: u64, n: u64, made: &mut TagListBuilder)
+    requires room { used + n ≤ TAGS_OF_A_BLOCK * length blocks.now }
     requires range { AreInRange blocks.now }
     requires ascending { Ascends blocks.now }
     requires spare { n ≤ made.old.spare }

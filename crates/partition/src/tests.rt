@@ -22,6 +22,16 @@ fn make<L: Ledger>(
     partition.call(Call::Mvfs { at }, steps)
 }
 
+/// A call that is not done yet.
+fn bodies<L: Ledger>(
+    rt: &impl Abort,
+    partition: &mut Partition,
+    steps: &mut Steps<L>,
+) -> Result<Reply, Fault> {
+    assert!(rt; partition.holder().is_some());
+    partition.call(Call::Bodies, steps)
+}
+
 fn mark<L: Ledger>(
     rt: &impl Abort,
     partition: &mut Partition,
@@ -42,7 +52,8 @@ fn goto<L: Ledger>(
     partition.goto(Tag(m), steps)
 }
 
-/// The state in short: the current mark, the tags taken, those left, and the entities that are live.
+/// The state in short: the current mark, the tags taken, those left, and the entities that are
+/// live.
 fn check_state(
     rt: &impl Abort,
     partition: &Partition,
@@ -98,18 +109,18 @@ fn build<L: Ledger>(
         rt,
         alloc,
         reply,
-        "Made(TagList { tags: [Tag(65), Tag(66), Tag(67), Tag(68), Tag(69)] })",
+        "Made(Items { items: [Tag(65), Tag(66), Tag(67), Tag(68), Tag(69)] })",
     )?;
     check_state(rt, partition, 64, 6, 58, 5);
     let reply = mark(rt, partition, steps);
-    check_reply(rt, alloc, reply, "Made(TagList { tags: [Tag(70)] })")?;
+    check_reply(rt, alloc, reply, "Made(Items { items: [Tag(70)] })")?;
     check_state(rt, partition, 70, 7, 57, 5);
     let reply = make(rt, partition, 1, steps);
     check_reply(
         rt,
         alloc,
         reply,
-        "Made(TagList { tags: [Tag(71), Tag(72), Tag(73), Tag(74), Tag(75)] })",
+        "Made(Items { items: [Tag(71), Tag(72), Tag(73), Tag(74), Tag(75)] })",
     )?;
     check_state(rt, partition, 70, 12, 52, 10);
     check_entity(rt, partition, 71, Entity::Body { shell: Tag(72) }, steps);
@@ -139,7 +150,7 @@ fn roll<L: Ledger>(
         rt,
         alloc,
         reply,
-        "Went(Lists { fresh: TagList { tags: [] }, gone: TagList { tags: [Tag(71), Tag(72), Tag(73), Tag(74), Tag(75)] }, changed: TagList { tags: [] } })",
+        "Went(Lists { fresh: Items { items: [] }, gone: Items { items: [Tag(71), Tag(72), Tag(73), Tag(74), Tag(75)] }, changed: Items { items: [] } })",
     )?;
     check_state(rt, partition, 70, 12, 52, 5);
     let reply = goto(rt, partition, 64, steps);
@@ -147,7 +158,7 @@ fn roll<L: Ledger>(
         rt,
         alloc,
         reply,
-        "Went(Lists { fresh: TagList { tags: [] }, gone: TagList { tags: [Tag(65), Tag(66), Tag(67), Tag(68), Tag(69)] }, changed: TagList { tags: [] } })",
+        "Went(Lists { fresh: Items { items: [] }, gone: Items { items: [Tag(65), Tag(66), Tag(67), Tag(68), Tag(69)] }, changed: Items { items: [] } })",
     )?;
     check_state(rt, partition, 64, 12, 52, 0);
     let reply = goto(rt, partition, 70, steps);
@@ -155,7 +166,7 @@ fn roll<L: Ledger>(
         rt,
         alloc,
         reply,
-        "Went(Lists { fresh: TagList { tags: [Tag(65), Tag(66), Tag(67), Tag(68), Tag(69)] }, gone: TagList { tags: [] }, changed: TagList { tags: [] } })",
+        "Went(Lists { fresh: Items { items: [Tag(65), Tag(66), Tag(67), Tag(68), Tag(69)] }, gone: Items { items: [] }, changed: Items { items: [] } })",
     )?;
     check_state(rt, partition, 70, 12, 52, 5);
     let point = Point { x: 0, y: 0, z: 0 };
@@ -181,6 +192,8 @@ fn refusals<L: Ledger>(
 ) -> Result<(), Fail> {
     let reply = make(rt, partition, 1048577, steps);
     check_reply(rt, alloc, reply, "Refused(OutOfRange(1048577))")?;
+    let reply = bodies(rt, partition, steps);
+    check_reply(rt, alloc, reply, "Refused(NoSuchTag(Tag(0)))")?;
     let reply = goto(rt, partition, 128, steps);
     check_reply(rt, alloc, reply, "Refused(NotOurs(Tag(128)))")?;
     let reply = goto(rt, partition, 65, steps);
@@ -206,7 +219,7 @@ fn play<L: Ledger, R: Abort>(rt: &R, alloc: Global, blank: Blank) -> Result<Vec<
     assert!(rt; partition.holder().is_some());
     partition.release();
     assert_eq!(rt; partition.holder(), None);
-    assert_eq!(rt; partition.journal().len(), 11);
+    assert_eq!(rt; partition.journal().len(), 12);
     Ok(partition.into_journal())
 }
 
@@ -222,6 +235,7 @@ fn rolls_back_and_forward(rt: HostRuntime) -> Result<(), Fail> {
         "Did { thread: 1, act: Goto(Tag(64)) }",
         "Did { thread: 1, act: Goto(Tag(70)) }",
         "Did { thread: 1, act: Call(Mvfs { at: Triple { x: 1048577, y: 0, z: 0 } }) }",
+        "Did { thread: 1, act: Call(Bodies) }",
         "Did { thread: 1, act: Goto(Tag(128)) }",
         "Did { thread: 1, act: Goto(Tag(65)) }",
         "Released(1)",

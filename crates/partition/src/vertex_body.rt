@@ -1,12 +1,12 @@
 ghost use Rattle.std.specs.Prelude.{◌≡◌, ◌+◌, ◌*◌, ◌≤◌, ◌++◌, not, length, take};
-ghost use Rattle.std.specs.List.{AllByRecursion};
 ghost use Rattle.pk_model.specs.Tags.{AreInRange, Ascends, next_tags};
-ghost use Rattle.pk_model.specs.VertexBodies.{is_coordinate, first_outside, mvfs};
-ghost use Rattle.partition.specs.BodyTags.{AreBodyTags, next_body_tags, with_body};
+ghost use Rattle.pk_model.specs.VertexBodies.{is_coordinate, first_outside, mvfs, with_vertex_body};
+ghost use Rattle.pk_model.specs.VertexBodies.{point_of as the_point_of};
+ghost use Rattle.partition.specs.BodyTags.{AreBodyTags, next_body_tags};
 
 use crate::tags::{list_next, tag_in};
 use entity_store::{Steps, Store};
-use pk_base::{Entity, Point, Tag, TagList, Triple};
+use pk_base::{Entity, Point, TAGS_OF_A_BLOCK, Tag, TagListBuilder, Triple};
 use std::sync::ledger::Ledger;
 
 /// The greatest coordinate of a point; the least is its negative.
@@ -36,7 +36,7 @@ pub(crate) fn outside(at: Triple) -> Option<i64>
 
 fn point_of(at: Triple) -> Point
     requires { first_outside at ≡ None }
-    ensures { result ≡ record { x = at.x; y = at.y; z = at.z } }
+    ensures { result ≡ the_point_of at }
 {
     Point {
         x: at.x as i32,
@@ -45,20 +45,22 @@ fn point_of(at: Triple) -> Point
     }
 }
 
-/// Makes a vertex body of the next five tags, and lists them. Five steps.
+/// Makes a vertex body of the next five tags, and lists them.
 pub(crate) fn make_vertex_body<L: Ledger>(
     store: &mut Store,
     used: u64,
     at: Triple,
-    made: &mut TagList,
+    made: &mut TagListBuilder,
     steps: &mut Steps<L>,
 )
-    requires room { used + 5 ≤ 64 * length store.old.blocks }
+    requires room { used + 5 ≤ TAGS_OF_A_BLOCK * length store.old.state.blocks }
     requires spare { 5 ≤ made.old.spare }
     requires inside { first_outside at ≡ None }
-    ensures map { store.new ≡ record store.old { map = (mvfs store.old.map at (next_tags store.old.blocks used)).map } }
-    ensures made { made.new.items ≡ made.old.items ++ take 5 (next_tags store.old.blocks used) }
-    ensures cost { steps.new ≡ steps.old + 5 }
+    ensures map { store.new.state ≡ record store.old.state {
+      map = (mvfs store.old.state.map at (next_tags store.old.state.blocks used)).map;
+    } }
+    ensures made { made.new.items ≡ made.old.items
+        ++ take 5 (next_tags store.old.state.blocks used) }
 {
     list_next(store.blocks(), used, 5, made);
     let tags = body_tags(store.blocks(), used);
@@ -76,7 +78,7 @@ pub(crate) struct BodyTags {
 }
 
 fn body_tags(blocks: &[u32], used: u64) -> BodyTags
-    requires room { used + 5 ≤ 64 * length blocks.now }
+    requires room { used + 5 ≤ TAGS_OF_A_BLOCK * length blocks.now }
     requires range { AreInRange blocks.now }
     requires ascending { Ascends blocks.now }
     ensures { result ≡ next_body_tags blocks.now used }
@@ -96,9 +98,11 @@ fn put_vertex_body<L: Ledger>(
     point: Point,
     steps: &mut Steps<L>,
 )
-    requires { AreBodyTags store.old.blocks tags.now }
-    ensures value { store.new ≡ record store.old { map = with_body store.old.map tags.now point } }
-    ensures cost { steps.new ≡ steps.old + 5 }
+    requires { AreBodyTags store.old.state.blocks tags.now }
+    ensures { store.new.state ≡ record store.old.state {
+      map = with_vertex_body store.old.state.map point
+          tags.now.body tags.now.shell tags.now.face tags.now.loop_ tags.now.vertex;
+    } }
 {
     let body = tags.body;
     let shell = tags.shell;

@@ -1,5 +1,5 @@
 -- Entities: their classes, their owners, and when two are the same.
-use Rattle.std.specs.Prelude.{ℕ, Bool, true, false, ◌==◌, ◌&&◌, Option, Some, None, List, codes}
+use Rattle.std.specs.Prelude.{ℕ, Bool, true, false, ◌==◌, ◌&&◌, Option, Some, None, List, [], ◌∷◌, ◌++◌, codes}
 use Rattle.std.specs.Ordering.{int_eq}
 use Rattle.pk_base.specs.declared.tag.Tag.{Tag}
 use Rattle.pk_base.specs.declared.entity.Point.{Point}
@@ -30,6 +30,21 @@ owner_of (Fin l next prev mate edge vertex) = Some l
 owner_of (Edge body fin) = Some body
 owner_of (Vertex body point) = Some body
 owner_of (Attr owner name value) = Some owner
+
+abbrev pub optional_tags : Option Tag → List Tag
+optional_tags None = []
+optional_tags (Some t) = t ∷ []
+
+-- the tags that the entity names, in the order of its fields
+abbrev pub named_by : Entity → List Tag
+named_by (Body shell) = shell ∷ []
+named_by (Shell body q) = body ∷ []
+named_by (Face shell outer) = shell ∷ outer ∷ []
+named_by (Loop face first vertex) = face ∷ optional_tags first ++ optional_tags vertex
+named_by (Fin l next prev mate edge vertex) = l ∷ next ∷ prev ∷ mate ∷ edge ∷ vertex ∷ []
+named_by (Edge body fin) = body ∷ fin ∷ []
+named_by (Vertex body point) = body ∷ []
+named_by (Attr owner name value) = owner ∷ []
 
 abbrev pub class_word : Class → List ℕ
 class_word class.Body = codes "body"
@@ -62,7 +77,8 @@ same_entity (Body a) (Body b) = same_tag a b
 same_entity (Shell a p) (Shell b q) = same_tag a b && int_eq p q
 same_entity (Face a o) (Face b u) = same_tag a b && same_tag o u
 same_entity (Loop a f l) (Loop b g m) = same_tag a b && (same_optional f g && same_optional l m)
-same_entity (Fin a n p m e v) (Fin b o q k f w) = same_tag a b && (same_tag n o && (same_tag p q && (same_tag m k && (same_tag e f && same_tag v w))))
+same_entity (Fin a n p m e v) (Fin b o q k f w) =
+    same_tag a b && (same_tag n o && (same_tag p q && (same_tag m k && (same_tag e f && same_tag v w))))
 same_entity (Edge a f) (Edge b g) = same_tag a b && same_tag f g
 same_entity (Vertex a p) (Vertex b q) = same_tag a b && same_point p q
 same_entity (Attr a n v) (Attr b m w) = same_tag a b && (same_name n m && int_eq v w)

@@ -1,3 +1,4 @@
-pub mod Listed
+-- In reading order.
+pub mod Blocks
+pub mod Building
 pub mod Entity
-pub mod Plain

@@ -1,28 +1,7 @@
 ghost use Rattle.std.specs.Prelude.{◌≡◌, IfOk};
-ghost use Rattle.pk_base.specs.Plain.{plain_act, plain_call};
 
-use crate::{Counted, Entity, Lists, MarkList, NoMemory, Refusal, Tag, TagList, Triple};
+use crate::{Call, Counted, Entity, Lists, MarkList, NoMemory, Tag, TagList};
 use std::alloc::Global;
-
-/// A call on the solids of a partition.
-#[derive(Debug, Drop)]
-pub enum Call {
-    /// Makes a body of one vertex, with its shell, face and loop (mvfs; Mäntylä, An Introduction to Solid Modeling, 1988).
-    /// Each coordinate is from -1,048,576 to 1,048,576; else it is refused `OutOfRange` with the first of x, y and z that
-    /// is not.
-    Mvfs { at: Triple },
-}
-
-impl Call {
-    /// An equal call, but for spare room in its lists. `NoMemory` comes only where an allocation fails.
-    pub fn copy(&self, _alloc: Global) -> Result<Call, NoMemory>
-        ensures { IfOk result (λ c. plain_call c ≡ plain_call self.now) }
-    {
-        match self {
-            Call::Mvfs { at } => Ok(Call::Mvfs { at: *at }),
-        }
-    }
-}
 
 /// What a thread asks of a partition that it holds.
 #[derive(Debug, Drop)]
@@ -42,9 +21,9 @@ pub enum Act {
 }
 
 impl Act {
-    /// An equal act, but for spare room in its lists. `NoMemory` comes only where an allocation fails.
+    /// An equal act. `NoMemory` comes only where an allocation fails.
     pub fn copy(&self, alloc: Global) -> Result<Act, NoMemory>
-        ensures { IfOk result (λ a. plain_act a ≡ plain_act self.now) }
+        ensures { IfOk result (λ a. a ≡ self.now) }
     {
         match self {
             Act::Call(call) => Ok(Act::Call(call.copy(alloc)?)),
@@ -87,7 +66,8 @@ pub enum Entry {
     Drew { thread: u32, block: u32 },
     /// The thread did the act, or was refused it by the partition.
     Did { thread: u32, act: Act },
-    /// The thread wanted more tags for the act than were left, and found the next block `next` above the last.
+    /// The thread wanted more tags for the act than were left, and found the next block `next`
+    /// above the last.
     Spent { thread: u32, next: u64, act: Act },
     /// The thread let the partition go.
     Released(u32),

@@ -34,7 +34,8 @@ impl fmt::Display for Class {
     }
 }
 
-/// A point of the model, in its units of length. Calls make points whose coordinates are from -1,048,576 to 1,048,576.
+/// A point of the model, in its units of length. Calls make points whose coordinates are from
+/// -1,048,576 to 1,048,576.
 #[derive(Clone, Copy, Debug, PartialEq, Eq)]
 pub struct Point {
     pub x: i32,
@@ -50,15 +51,30 @@ pub struct Triple {
     pub z: i64,
 }
 
-/// An attribute's name, of 1 to 16 bytes, padded with zeros. It may have any bytes, and need not be UTF-8; it prints up
-/// to its first zero.
+/// A corner of a polygon in its plane, as a caller gives it, before any test of its range.
+#[derive(Clone, Copy, Debug, PartialEq, Eq)]
+pub struct Pair {
+    pub x: i64,
+    pub y: i64,
+}
+
+/// An axis of space, about which a body is turned.
+#[derive(Clone, Copy, Debug, PartialEq, Eq)]
+pub enum Axis {
+    X,
+    Y,
+    Z,
+}
+
+/// An attribute's name, of 1 to 16 bytes, padded with zeros. It may have any bytes, and need not be
+/// UTF-8; it prints up to its first zero.
 #[derive(Clone, Copy, Debug, PartialEq, Eq)]
 pub struct Name(pub [u8; 16]);
 
-/// What a tag stands for, in a half-edge structure (Mäntylä, An Introduction to Solid Modeling, 1988). A fin is a
-/// half-edge: it starts at its `vertex`, and `next` and `prev` are its neighbours in its loop. An edge names the lesser
-/// of its two fins, a loop its least fin, or its lone vertex where it has no fins. The shell's `q` stands for s - h in
-/// `v - e + f = 2 (s - h) + r`.
+/// What a tag stands for, in a half-edge structure (Mäntylä, An Introduction to Solid Modeling,
+/// 1988). A fin is a half-edge: it starts at its `vertex`, and `next` and `prev` are its neighbours
+/// in its loop. An edge names the lesser of its two fins, a loop its least fin, or its lone vertex
+/// where it has no fins. The shell's `q` stands for s - h in `v - e + f = 2 (s - h) + r`.
 #[derive(Clone, Copy, Debug, PartialEq, Eq)]
 pub enum Entity {
     Body {

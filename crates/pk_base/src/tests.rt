@@ -80,27 +80,111 @@ fn entities_and_their_parts(rt: HostRuntime) -> Result<(), Fail> {
 }
 
 #[test]
-fn lists_and_copies(rt: HostRuntime) -> Result<(), Fail> {
+fn lists_are_made_in_room(rt: HostRuntime) -> Result<(), Fail> {
     let alloc = rt.alloc();
-    let mut tags = TagList::with_room(alloc, 2)?;
-    tags.push(Tag(65));
+    let mut tags = TagListBuilder::with_room(alloc, 3)?;
+    tags.push(Tag(66));
     tags.push(Tag(64));
+    tags.push(Tag(65));
+    assert_eq!(rt; tags.as_slice(), [Tag(66), Tag(64), Tag(65)].as_slice());
+    tags.sort();
+    let tags = tags.finish();
     let copy = tags.copy(alloc)?;
-    assert_eq!(rt; copy.as_slice(), [Tag(65), Tag(64)].as_slice());
-    let row = MarkRow {
-        tag: Tag(70),
-        parent: Some(Tag(64)),
-    };
-    let mut marks = MarkList::with_room(alloc, 1)?;
-    marks.push(row);
+    assert_eq!(rt; copy.as_slice(), [Tag(64), Tag(65), Tag(66)].as_slice());
+    let marks = Items::of([MARK].to_vec(alloc)?);
     let copy = marks.copy(alloc)?;
-    assert_eq!(rt; copy.as_slice(), [row].as_slice());
-    let at = Triple { x: 1, y: -2, z: 3 };
+    assert_eq!(rt; copy.into_vec().as_slice(), [MARK].as_slice());
+    Ok(())
+}
+
+#[test]
+fn tags_and_blocks(rt: HostRuntime) {
+    for (block, first) in [(1, 64), (2, 128), (LAST_BLOCK, 16_777_152)] {
+        assert_eq!(rt; Tag::first_of(block), Tag(first));
+        assert_eq!(rt; Tag(first + 63).block(), block);
+        assert_eq!(rt; Tag(first - 1).block(), block - 1);
+    }
+}
+
+const MARK: MarkRow = MarkRow {
+    tag: Tag(70),
+    parent: Some(Tag(64)),
+};
+
+const AT: Triple = Triple { x: 1, y: -2, z: 3 };
+
+const BY: Triple = Triple { x: 4, y: 5, z: -6 };
+
+/// A call of each kind but those with corners.
+fn calls() -> [Call; 23] {
+    let (a, b) = (Tag(65), Tag(66));
+    [
+        Call::Mvfs { at: AT },
+        Call::Mev { end: a, at: AT },
+        Call::Mef { from: a, to: b },
+        Call::Mekr { keep: a, ring: b },
+        Call::Mfkrh { ring: a },
+        Call::Kvfs { body: a },
+        Call::Kev { fin: a },
+        Call::Kef { fin: a },
+        Call::Kemr { fin: a },
+        Call::Kfmrh { keep: a, kill: b },
+        Call::RingMove { ring: a, to: b },
+        Call::Block { at: AT, size: BY },
+        Call::Sweep { face: a, by: BY },
+        Call::Move { body: a, by: BY },
+        Call::Turn {
+            body: a,
+            axis: Axis::Y,
+            turns: 3,
+        },
+        Call::Delete { body: a },
+        Call::SetAttr {
+            owner: a,
+            name: NAME,
+            value: -9,
+        },
+        Call::DropAttr {
+            owner: a,
+            name: NAME,
+        },
+        Call::Ask { tag: a },
+        Call::Kids { tag: a },
+        Call::Ring { ring: a },
+        Call::Counts { body: a },
+        Call::Bodies,
+    ]
+}
+
+#[test]
+fn copies_are_equal(rt: HostRuntime) -> Result<(), Fail> {
+    let alloc = rt.alloc();
+    for call in calls() {
+        let copy = call.copy(alloc)?;
+        assert_eq!(rt;
+            format!(in alloc; "{copy:?}")?,
+            format!(in alloc; "{call:?}")?
+        );
+    }
+    for corners in [
+        Call::Lamina {
+            z: 1,
+            corners: Items::of([Pair { x: 1, y: 2 }].to_vec(alloc)?),
+        },
+        Call::Prism {
+            z: 1,
+            h: 2,
+            corners: Items::of([Pair { x: 3, y: 4 }].to_vec(alloc)?),
+        },
+    ] {
+        let copy = corners.copy(alloc)?;
+        assert_eq!(rt;
+            format!(in alloc; "{copy:?}")?,
+            format!(in alloc; "{corners:?}")?
+        );
+    }
     let acts = [
-        (
-            Act::Call(Call::Mvfs { at }),
-            "Call(Mvfs { at: Triple { x: 1, y: -2, z: 3 } })",
-        ),
+        (Act::Call(Call::Bodies), "Call(Bodies)"),
         (Act::Mark, "Mark"),
         (Act::Goto(Tag(64)), "Goto(Tag(64))"),
         (Act::Unmark(Tag(65)), "Unmark(Tag(65))"),

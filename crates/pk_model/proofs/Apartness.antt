@@ -1,4 +1,4 @@
--- No tag names two entities, for any tidy modeller.
+-- No tag names two entities, for any modeller.
 use Rattle.std.proofs.Common.{◌≡◌, ◌≢◌, ℕ, ◌+◌, ◌<◌, ◌≤◌, ◌⊎◌, inl, inr, ⊎_elim, true, List, [], ◌∷◌, ◌++◌, length, take, drop, Option, Some, None, refl, sym, subst, arith}
 use Rattle.std.specs.Prelude.{IsSome, Contains}
 use Rattle.std.specs.List.{filter_map, AllByRecursion}
@@ -7,14 +7,15 @@ use Rattle.std.proofs.lemmas.List.{append-nil, take-append-drop}
 use Rattle.std.proofs.lemmas.List.Elements.{Contains-append_left, Contains-append_right, Contains-append_cases}
 use Rattle.pk_base.specs.declared.tag.Tag.{Tag}
 use Rattle.pk_base.specs.declared.act.Entry.{Entry}
-use Rattle.pk_model.specs.Tags.{block_of, owns, tags_of}
+use Rattle.pk_base.specs.Blocks.{block_of}
+use Rattle.pk_model.specs.Tags.{owns, tags_of}
 use Rattle.pk_model.specs.State.{initial_mark}
-use Rattle.pk_model.specs.Modelling.{Modelling}
+use Rattle.pk_model.specs.Modelling.{Modelling, IsModeller}
 use Rattle.pk_model.specs.Replay.{replay, drawn_block}
 use Rattle.pk_model.specs.Apart.{Apart, NoRepeats, TakenBefore, EachTakenBefore, taken_in, created_from}
-use Rattle.pk_model.specs.Laws.{IsTidy, drawn_in, BlocksApart, EachReplays, AreOneSession}
+use Rattle.pk_model.specs.Sessions.{drawn_in, BlocksApart, EachReplays, AreOneSession}
 use Rattle.pk_model.proofs.TagLists.{ByRecursion-append, ByRecursion-contains, ByRecursion-at, ByRecursion-weaker, NoRepeats-append, NoRepeats-take, NoRepeats-blocks_apart, BlocksApart-ascends, Contains-owns, not_owned}
-use Rattle.pk_model.proofs.Kept.{replay-kept, live_taken}
+use Rattle.pk_model.proofs.TagsTaken.{replay-kept, live_taken}
 
 -- the blocks that partitions p, p + 1 and so on own over these journals
 abbrev pub owned_from : ℕ → List (List Entry) → List ℕ
@@ -27,12 +28,12 @@ some_of (Some x) h = (x, refl)
 
 -- ---- at each moment, each live tag was taken before
 
-taken_before : (K : Modelling) → IsTidy K → (p : ℕ) (journal : List Entry) → TakenBefore K p journal
-taken_before K tidy p journal moment s h t live = live_taken p _ _ s (replay-kept K tidy p (take moment journal) s h) t live
+taken_before : (K : Modelling) → IsModeller K → (p : ℕ) (journal : List Entry) → TakenBefore K p journal
+taken_before K good p journal moment s h t live = live_taken K p _ _ s (replay-kept K good p (take moment journal) s h) t live
 
-each_taken_before : (K : Modelling) → IsTidy K → (p : ℕ) (journals : List (List Entry)) → EachTakenBefore K p journals
-each_taken_before K tidy p [] = tt
-each_taken_before K tidy p (journal ∷ journals) = (taken_before K tidy p journal, each_taken_before K tidy (p + 1) journals)
+each_taken_before : (K : Modelling) → IsModeller K → (p : ℕ) (journals : List (List Entry)) → EachTakenBefore K p journals
+each_taken_before K good p [] = tt
+each_taken_before K good p (journal ∷ journals) = (taken_before K good p journal, each_taken_before K good (p + 1) journals)
 
 -- ---- no tag stands twice among those created
 
@@ -79,12 +80,12 @@ BlocksApart-append : (bs cs : List ℕ) → BlocksApart bs → BlocksApart cs �
 BlocksApart-append [] cs h k d = k
 BlocksApart-append (b ∷ bs) cs h k d = (ByRecursion-append _ bs cs h.0 d.0, BlocksApart-append bs cs h.1 k d.1)
 
-module _ (K : Modelling) (tidy : IsTidy K) where
+module _ (K : Modelling) (good : IsModeller K) where
   -- what one partition created is of its own blocks
   created_by_one : (p : ℕ) (journal : List Entry) → IsSome (replay K p journal) → (t : Tag) → Contains (initial_mark p ∷ taken_in K p journal) t → owns (p ∷ filter_map drawn_block journal) t ≡ true
   created_by_one p journal h t c =
       let end = some_of (replay K p journal) h in
-      let k = replay-kept K tidy p journal end.0 end.1 in
+      let k = replay-kept K good p journal end.0 end.1 in
       subst (λ l. owns l t ≡ true) k.blocks (Contains-owns end.0.blocks t (Contains-take end.0.used (tags_of end.0.blocks) t (subst (λ l. Contains l t) k.in_order c)))
 
   created_owned : (p : ℕ) (journals : List (List Entry)) → EachReplays K p journals → (t : Tag) → Contains (created_from K p journals) t → owns (owned_from p journals) t ≡ true
@@ -97,7 +98,7 @@ module _ (K : Modelling) (tidy : IsTidy K) where
   once_by_one : (p : ℕ) (journal : List Entry) → IsSome (replay K p journal) → NoRepeats (initial_mark p ∷ taken_in K p journal)
   once_by_one p journal h =
       let end = some_of (replay K p journal) h in
-      let k = replay-kept K tidy p journal end.0 end.1 in
+      let k = replay-kept K good p journal end.0 end.1 in
       subst NoRepeats (sym k.in_order) (NoRepeats-take end.0.used (tags_of end.0.blocks) (NoRepeats-blocks_apart end.0.blocks (BlocksApart-ascends end.0.blocks k.ascends)))
 
   created_once : (p : ℕ) (journals : List (List Entry)) → EachReplays K p journals → BlocksApart (owned_from p journals) → NoRepeats (created_from K p journals)
@@ -115,7 +116,7 @@ module _ (K : Modelling) (tidy : IsTidy K) where
   one_apart p journal h = subst NoRepeats (sym (append-nil (initial_mark p ∷ taken_in K p journal))) (once_by_one p journal h)
 
   pub one_journal_apart : (journal : List Entry) → IsSome (replay K 1 journal) → Apart K (journal ∷ [])
-  one_journal_apart journal h = record { once = one_apart 1 journal h; taken = each_taken_before K tidy 1 (journal ∷ []) }
+  one_journal_apart journal h = record { once = one_apart 1 journal h; taken = each_taken_before K good 1 (journal ∷ []) }
 
 -- ---- the blocks of a session
 
@@ -163,8 +164,8 @@ owned_once n p (journal ∷ journals) fits above once =
     let below : AllByRecursion (λ c. p ≢ c) drawn = ByRecursion-weaker _ _ (λ c h e. let k : p ≡ c = e in absurd (omega arith)) drawn above_drawn in
     BlocksApart-append (p ∷ drawn) others (below, BlocksApart-left drawn later once) (owned_once n (p + 1) journals fits' above_later (BlocksApart-right drawn later once)) (itself, apart)
 
-pub session_apart : (K : Modelling) → IsTidy K → (journals : List (List Entry)) → AreOneSession K journals → Apart K journals
-session_apart K tidy journals s = record {
-  once = created_once K tidy 1 journals s.replays (owned_once (length journals) 1 journals (omega arith) s.above s.once);
-  taken = each_taken_before K tidy 1 journals;
+pub session_apart : (K : Modelling) → IsModeller K → (journals : List (List Entry)) → AreOneSession K journals → Apart K journals
+session_apart K good journals s = record {
+  once = created_once K good 1 journals s.replays (owned_once (length journals) 1 journals (omega arith) s.above s.once);
+  taken = each_taken_before K good 1 journals;
 }

@@ -1,13 +1,8 @@
 pub mod Steps
 pub mod Replays
 pub mod TagLists
-pub mod Ways
-pub mod Kept
-pub mod FirstMarks
-pub mod Return
+pub mod Transitions
+pub mod TagsTaken
 pub mod Apartness
-pub mod Tidy
-pub mod Computed
-pub mod Differences
-pub mod Vectors
 pub mod Sessions
+pub mod VertexModeller

@@ -5,10 +5,10 @@ use Rattle.pk_base.specs.declared.act.Entry.{Entry}
 use Rattle.pk_model.specs.State.{PartitionState}
 use Rattle.pk_model.specs.Modelling.{Modelling}
 use Rattle.pk_model.specs.Step.{step, Stepped}
-use Rattle.pk_model.specs.Replay.{replay_from, Told, told_from}
+use Rattle.pk_model.specs.Replay.{replay_from, AnsweredEntry, answered_entries_from}
 
 -- what an entry and its step tell
-abbrev pub told_of : PartitionState → Entry → Stepped → Told
+abbrev pub told_of : PartitionState → Entry → Stepped → AnsweredEntry
 told_of s e r = record { entry = e; before = s; answer = r.answer }
 
 -- The entry has this step, and the rest leads on from its state.
@@ -28,8 +28,8 @@ replay_from-first K s e es end h = IsFirst-by K s e es end (step K s e) refl h
 pub replay_from-step : (K : Modelling) (s : PartitionState) (e : Entry) (es : List Entry) (r : Stepped) → step K s e ≡ Some r → replay_from K s (e ∷ es) ≡ replay_from K r.state es
 replay_from-step K s e es r h = ap (option_and_then (λ (q : Stepped). replay_from K q.state es)) h
 
-pub told_from-step : (K : Modelling) (s : PartitionState) (e : Entry) (es : List Entry) (r : Stepped) → step K s e ≡ Some r → told_from K s (e ∷ es) ≡ told_of s e r ∷ told_from K r.state es
-told_from-step K s e es r h = ap (λ o. option_map_or (λ (q : Stepped). told_of s e q ∷ told_from K q.state es) o []) h
+pub answered_entries_from-step : (K : Modelling) (s : PartitionState) (e : Entry) (es : List Entry) (r : Stepped) → step K s e ≡ Some r → answered_entries_from K s (e ∷ es) ≡ told_of s e r ∷ answered_entries_from K r.state es
+answered_entries_from-step K s e es r h = ap (λ o. option_map_or (λ (q : Stepped). told_of s e q ∷ answered_entries_from K q.state es) o []) h
 
 -- a replay of some entries and then others goes on from where the first end
 pub replay_from-append : (K : Modelling) (s : PartitionState) (es fs : List Entry) (mid : PartitionState) → replay_from K s es ≡ Some mid → replay_from K s (es ++ fs) ≡ replay_from K mid fs

@@ -8,9 +8,9 @@ use Rattle.std.proofs.lemmas.List.Sorted.{All-permutation, IsPermutation-sym}
 use Rattle.std.proofs.lemmas.List.Elements.{All-from_recursion, recursion_from_All}
 use Rattle.std.proofs.lemmas.Map.Keys.{IsDistinct-IsPermutation}
 use Rattle.pk_base.specs.declared.act.Entry.{Entry}
-use Rattle.pk_model.specs.Modelling.{Modelling}
+use Rattle.pk_model.specs.Modelling.{Modelling, IsModeller}
 use Rattle.pk_model.specs.Apart.{Apart}
-use Rattle.pk_model.specs.Laws.{IsTidy, drawn_in, BlocksApart, EachReplays, AreOneSession}
+use Rattle.pk_model.specs.Sessions.{drawn_in, BlocksApart, EachReplays, AreOneSession}
 use Rattle.pk_model.proofs.TagLists.{ByRecursion-weaker}
 use Rattle.pk_model.proofs.Apartness.{session_apart}
 
@@ -43,5 +43,5 @@ session_from_counter K k journals replays drawn =
       once = apart_if_distinct (drawn_in journals) (IsDistinct-IsPermutation ◌==◌ (nat_eq_equiv.symm) (range_with_len (n + 1) k) (drawn_in journals) back (range_distinct (n + 1) k));
     }
 
-pub counted_apart : (K : Modelling) → IsTidy K → (k : ℕ) (journals : List (List Entry)) → EachReplays K 1 journals → IsPermutation (drawn_in journals) (range_with_len (length journals + 1) k) → Apart K journals
-counted_apart K tidy k journals replays drawn = session_apart K tidy journals (session_from_counter K k journals replays drawn)
+pub counted_apart : (K : Modelling) → IsModeller K → (k : ℕ) (journals : List (List Entry)) → EachReplays K 1 journals → IsPermutation (drawn_in journals) (range_with_len (length journals + 1) k) → Apart K journals
+counted_apart K good k journals replays drawn = session_apart K good journals (session_from_counter K k journals replays drawn)

@@ -1,5 +1,5 @@
 -- The order of tags, and the tags of blocks.
-use Rattle.std.proofs.Common.{◌≡◌, ◌≢◌, ℕ, zero, suc, ◌+◌, ◌-◌, ◌*◌, ◌/◌, ◌%◌, ◌<◌, ◌≤◌, ⊎_elim, true, false, List, [], ◌∷◌, ◌++◌, length, take, get_or, refl, sym, ap, subst, ◌∙◌, arith}
+use Rattle.std.proofs.Common.{◌≡◌, ◌≢◌, ℕ, zero, suc, ◌+◌, ◌-◌, ◌*◌, ◌/◌, ◌%◌, ◌<◌, ◌≤◌, ⊎_elim, true, false, List, [], ◌∷◌, ◌++◌, length, take, drop, get_or, refl, sym, ap, subst, ◌∙◌, arith}
 use Rattle.std.specs.Prelude.{◌==◌, nat_lt, map, slice_index, slice_index_or, Contains}
 use Rattle.std.specs.List.{range_with_len, list_all, AllByRecursion}
 use Rattle.std.specs.Cmp.{IsTotalOrder, nat_cmp_total}
@@ -9,17 +9,18 @@ use Rattle.std.specs.declared.cmp.Ordering.{Ordering}
 use Rattle.std.specs.declared.cmp.Ordering.TheVariants.{Less, Equal, Greater}
 use Rattle.std.proofs.lemmas.Cmp.{on_total, tied_itself}
 use Rattle.std.proofs.Math.Seq.{take-add}
-use Rattle.std.proofs.lemmas.List.{length-append, length-drop, get_or-drop, take-append-le, get_or_append_left, get_or-append_right}
+use Rattle.std.proofs.lemmas.List.{take-append-drop, length-append, length-drop, get_or-drop, take-append-le, get_or_append_left, get_or-append_right}
 use Rattle.std.proofs.lemmas.List.Concat.{flat_map-append}
 use Rattle.std.proofs.lemmas.List.FromFn.{length-map-range_with_len, get_or-map-range_with_len}
 use Rattle.std.proofs.lemmas.List.Elements.{All-weaker, All-contains, All-contains_itself, All-from_recursion, recursion_from_All, Contains-append_left, Contains-append_right, Contains-append_cases}
 use Rattle.std.proofs.lemmas.Bool.{cases_lt, eqb-true, eq-eqb, or_cases, or_left, or_right, and_parts, ltb-true}
 use Rattle.pk_base.specs.declared.tag.Tag.{Tag}
 pub use Rattle.pk_model.specs.Tags.{Ascends}
-use Rattle.pk_model.specs.Tags.{tag, block_of, owns, next_tags, tag_at, tags_of, tags_of_block}
+use Rattle.pk_base.specs.Blocks.{tag, block_of}
+use Rattle.pk_model.specs.Tags.{TagsAscend, owns, next_tags, tag_at, tags_of, tags_of_block}
 use Rattle.pk_model.specs.Maps.{tag_cmp}
 use Rattle.pk_model.specs.Apart.{NoRepeats}
-use Rattle.pk_model.specs.Laws.{BlocksApart}
+use Rattle.pk_model.specs.Sessions.{BlocksApart}
 
 -- ---- the order
 
@@ -241,3 +242,68 @@ Ascends-push [] b h k = (tt, tt)
 Ascends-push (c ∷ bs) b h k =
     let p = and_parts (nat_lt c b) (list_all (λ o. nat_lt o b) bs) k in
     (ByRecursion-append _ bs (b ∷ []) h.0 (ltb-true c b p.0, tt), Ascends-push bs b h.1 p.1)
+
+-- ---- the tags of ascending blocks ascend
+
+TagsAscend-append : (low : ℕ) (ts us : List Tag) → TagsAscend ts → TagsAscend us → AllByRecursion (λ t. t.0 < low) ts → AllByRecursion (λ u. low ≤ u.0) us → TagsAscend (ts ++ us)
+TagsAscend-append low [] us h k b f = k
+TagsAscend-append low (t ∷ ts) us h k b f = (ByRecursion-append _ ts us h.0 (ByRecursion-weaker _ _ (λ u l. omega (arith, b.0, l)) us f), TagsAscend-append low ts us h.1 k b.1 f)
+
+numbers_from : (low a n : ℕ) → low ≤ a → AllByRecursion (λ u. low ≤ u.0) (map tag (range_with_len a n))
+numbers_from low a zero h = tt
+numbers_from low a (suc n) h = (h, numbers_from low (a + 1) n (omega arith))
+
+numbers_below : (high a n : ℕ) → a + n ≤ high → AllByRecursion (λ u. u.0 < high) (map tag (range_with_len a n))
+numbers_below high a zero h = tt
+numbers_below high a (suc n) h = (omega arith, numbers_below high (a + 1) n (omega arith))
+
+numbers_ascend : (a n : ℕ) → TagsAscend (map tag (range_with_len a n))
+numbers_ascend a zero = tt
+numbers_ascend a (suc n) = (ByRecursion-weaker _ _ (λ u l. omega (arith, l)) (map tag (range_with_len (a + 1) n)) (numbers_from (a + 1) (a + 1) n (omega arith)), numbers_ascend (a + 1) n)
+
+block_from : (low b : ℕ) → low ≤ b → AllByRecursion (λ u. 64 * low ≤ u.0) (tags_of_block b)
+unfolding tags_of_block
+block_from low b h = numbers_from (64 * low) (64 * b) 64 (omega arith)
+
+block_below : (b : ℕ) → AllByRecursion (λ u. u.0 < 64 * (b + 1)) (tags_of_block b)
+unfolding tags_of_block
+block_below b = numbers_below (64 * (b + 1)) (64 * b) 64 (omega arith)
+
+block_ascends : (b : ℕ) → TagsAscend (tags_of_block b)
+unfolding tags_of_block
+block_ascends b = numbers_ascend (64 * b) 64
+
+tags_from : (low : ℕ) (bs : List ℕ) → AllByRecursion (λ b. low ≤ b) bs → AllByRecursion (λ u. 64 * low ≤ u.0) (tags_of bs)
+tags_from low [] h = subst (AllByRecursion (λ u. 64 * low ≤ u.0)) (sym tags_of-nil) tt
+tags_from low (b ∷ bs) h = subst (AllByRecursion (λ u. 64 * low ≤ u.0)) (sym (tags_of-cons b bs)) (ByRecursion-append _ (tags_of_block b) (tags_of bs) (block_from low b h.0) (tags_from low bs h.1))
+
+pub TagsAscend-tags_of : (bs : List ℕ) → Ascends bs → TagsAscend (tags_of bs)
+TagsAscend-tags_of [] h = subst TagsAscend (sym tags_of-nil) tt
+TagsAscend-tags_of (b ∷ bs) h =
+    subst TagsAscend (sym (tags_of-cons b bs))
+    (TagsAscend-append (64 * (b + 1)) (tags_of_block b) (tags_of bs) (block_ascends b) (TagsAscend-tags_of bs h.1) (block_below b) (tags_from (b + 1) bs (ByRecursion-weaker _ _ (λ c l. omega (arith, l)) bs h.0)))
+
+pub TagsAscend-drop : (n : ℕ) (ts : List Tag) → TagsAscend ts → TagsAscend (drop n ts)
+TagsAscend-drop zero ts h = h
+TagsAscend-drop (suc n) [] h = tt
+TagsAscend-drop (suc n) (t ∷ ts) h = TagsAscend-drop n ts h.1
+
+pub TagsAscend-next_tags : (blocks : List ℕ) (used : ℕ) → Ascends blocks → TagsAscend (next_tags blocks used)
+TagsAscend-next_tags blocks used h = TagsAscend-drop used (tags_of blocks) (TagsAscend-tags_of blocks h)
+
+-- where no tag stands twice, none of the first part is in the second
+pub NoRepeats-between : (xs ys : List Tag) (t : Tag) → NoRepeats (xs ++ ys) → Contains xs t → Contains ys t → ⊥
+NoRepeats-between [] ys t n h k = not_in_nil t h
+NoRepeats-between (x ∷ xs) ys t n h k =
+    ⊎_elim (λ (l : Contains (x ∷ []) t). ByRecursion-at (λ u. x ≢ u) (xs ++ ys) t n.0 (Contains-append_right xs ys t k) (contains_only x t l))
+    (λ (r : Contains xs t). NoRepeats-between xs ys t n.1 r k)
+    (Contains-append_cases (x ∷ []) xs t h)
+  where
+    contains_only : (x y : Tag) → Contains (x ∷ []) y → x ≡ y
+    contains_only x y (zero, h, e) = e
+    contains_only x y (suc k, h, e) = absurd (omega arith)
+
+-- a tag that was taken is none of the next
+pub taken_or_next : (blocks : List ℕ) (used : ℕ) (t : Tag) → Ascends blocks → Contains (take used (tags_of blocks)) t → Contains (next_tags blocks used) t → ⊥
+taken_or_next blocks used t h k l =
+    NoRepeats-between (take used (tags_of blocks)) (drop used (tags_of blocks)) t (subst NoRepeats (sym (take-append-drop used (tags_of blocks))) (NoRepeats-tags_of blocks h)) k l

@@ -19,14 +19,25 @@ MarkParts = Tag × (Option Tag × (EntityMap × Bool))
 
 abbrev pub mark_code : Coded Mark
 mark_code =
-    code_by MarkParts (coded× tag_code (coded× (coded_option tag_code) (coded× map_code coded_bool)))
-    (λ k. (k.tag, (k.parent, (k.map, k.live)))) (λ p. record { tag = p.0; parent = p.1.0; map = p.1.1.0; live = p.1.1.1 }) (λ _. refl)
+    code_by MarkParts
+    (coded× tag_code (coded× (coded_option tag_code) (coded× map_code coded_bool)))
+    (λ k. (k.tag, (k.parent, (k.map, k.live))))
+    (λ p. record { tag = p.0; parent = p.1.0; map = p.1.1.0; live = p.1.1.1 }) (λ _. refl)
 
 abbrev StateParts : Type 0
 StateParts = EntityMap × (List Mark × (Tag × (List ℕ × (ℕ × Option ℕ))))
 
 abbrev pub state_code : Coded PartitionState
 state_code =
-    code_by StateParts (coded× map_code (coded× (coded_list mark_code) (coded× tag_code (coded× (coded_list coded_ℕ) (coded× coded_ℕ (coded_option coded_ℕ))))))
+    code_by StateParts
+    (coded× map_code (coded× (coded_list mark_code) (coded× tag_code
+    (coded× (coded_list coded_ℕ) (coded× coded_ℕ (coded_option coded_ℕ))))))
     (λ s. (s.now, (s.marks, (s.at, (s.blocks, (s.used, s.holder))))))
-    (λ p. record { now = p.0; marks = p.1.0; at = p.1.1.0; blocks = p.1.1.1.0; used = p.1.1.1.1.0; holder = p.1.1.1.1.1 }) (λ _. refl)
+    (λ p. record {
+      now = p.0;
+      marks = p.1.0;
+      at = p.1.1.0;
+      blocks = p.1.1.1.0;
+      used = p.1.1.1.1.0;
+      holder = p.1.1.1.1.1;
+    }) (λ _. refl)

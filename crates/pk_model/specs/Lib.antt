@@ -6,8 +6,6 @@ pub mod Codes
 pub mod Modelling
 pub mod Step
 pub mod Replay
-pub mod Return
 pub mod Apart
+pub mod Sessions
 pub mod VertexBodies
-pub mod Laws
-pub mod Worked

@@ -4,7 +4,6 @@ use Rattle.std.specs.Ordering.{nat_cmp}
 use Rattle.std.specs.FinMap.{FinMap, get, keys, insert, remove}
 use Rattle.std.specs.declared.cmp.Ordering.{Ordering}
 use Rattle.pk_base.specs.Entity.{same_entity}
-use Rattle.pk_base.specs.Listed.{bare}
 use Rattle.pk_base.specs.declared.tag.Tag.{Tag}
 use Rattle.pk_base.specs.declared.entity.Entity.{Entity}
 use Rattle.pk_base.specs.declared.list.Lists.{Lists}
@@ -40,4 +39,8 @@ changed_tags old new = filter (λ t. differ (get old t) (get new t)) (keys new)
 
 -- the three lists, each ascending as keys do
 unfoldable pub diff : EntityMap → EntityMap → Lists
-diff old new = record { fresh = bare (fresh_tags old new); gone = bare (gone_tags old new); changed = bare (changed_tags old new) }
+diff old new = record {
+  fresh = fresh_tags old new;
+  gone = gone_tags old new;
+  changed = changed_tags old new;
+}

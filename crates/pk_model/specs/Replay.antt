@@ -21,19 +21,21 @@ abbrev pub replay : Modelling → ℕ → List Entry → Option PartitionState
 replay K p journal = replay_from K (opening p) journal
 
 -- an entry, the state before it, and what its act answered
-pub record Told : Type 0 where
+pub record AnsweredEntry : Type 0 where
   pub entry : Entry
   pub before : PartitionState
   pub answer : Option (Result Reply Refusal)
 
 -- the entries with their answers, up to the first that is not defined
-abbrev pub told_from : Modelling → PartitionState → List Entry → List Told
-told_from K s [] = []
-told_from K s (e ∷ es) = option_map_or (λ (r : Stepped). record { entry = e; before = s; answer = r.answer } ∷ told_from K r.state es) (step K s e) []
+abbrev pub answered_entries_from : Modelling → PartitionState → List Entry → List AnsweredEntry
+answered_entries_from K s [] = []
+answered_entries_from K s (e ∷ es) =
+    option_map_or (λ (r : Stepped). record { entry = e; before = s; answer = r.answer }
+    ∷ answered_entries_from K r.state es) (step K s e) []
 
 -- the entries of partition p with their answers
-abbrev pub told : Modelling → ℕ → List Entry → List Told
-told K p journal = told_from K (opening p) journal
+abbrev pub answered_entries : Modelling → ℕ → List Entry → List AnsweredEntry
+answered_entries K p journal = answered_entries_from K (opening p) journal
 
 abbrev pub drawn_block : Entry → Option ℕ
 drawn_block (Drew t b) = Some b
@@ -56,10 +58,12 @@ thread_of (Did t a) = t
 thread_of (Spent t next a) = t
 thread_of (Released t) = t
 
--- The journal of partition p is legal in a session of n partitions whose last block is `last`: each of its steps is
--- defined; each block drawn is above n and at most `last`; each number that was found spent is above `last`, and by at
--- most 65,535, since a session has no more seats and each adds to a number above `last` at most once.
+-- The journal of partition p is legal in a session of n partitions whose last block is `last`: each
+-- of its steps is defined; each block drawn is above n and at most `last`; each number that was
+-- found spent is above `last`, and by at most 65,535, since a session has no more seats and each
+-- adds to a number above `last` at most once.
 pub record Legal (K : Modelling) (p n last : ℕ) (journal : List Entry) : Type 0 where
   pub replays : IsSome (replay K p journal)
   pub drawn : AllByRecursion (λ b. (n < b) × (b ≤ last)) (filter_map drawn_block journal)
-  pub spent : AllByRecursion (λ k. (last < k) × (k ≤ last + 65535)) (filter_map spent_number journal)
+  pub spent : AllByRecursion (λ k. (last < k) × (k ≤ last + 65535))
+      (filter_map spent_number journal)

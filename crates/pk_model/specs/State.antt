@@ -1,8 +1,8 @@
 -- The state of a partition.
-use Rattle.std.specs.Prelude.{ℕ, ◌*◌, ◌==◌, Bool, true, false, List, [], ◌∷◌, Option, None, unwrap_or, option_map}
+use Rattle.std.specs.Prelude.{ℕ, ◌==◌, Bool, true, false, List, [], ◌∷◌, Option, None, unwrap_or, option_map}
 use Rattle.std.specs.FinMap.{empty}
 use Rattle.pk_base.specs.declared.tag.Tag.{Tag}
-use Rattle.pk_model.specs.Tags.{tag}
+use Rattle.pk_base.specs.Blocks.{first_tag_of}
 use Rattle.pk_model.specs.Maps.{EntityMap}
 
 -- a mark, its parent, the whole map that it stands for, and whether it is live
@@ -22,9 +22,10 @@ pub record PartitionState : Type 0 where
 
 -- the initial mark of partition p
 abbrev pub initial_mark : ℕ → Tag
-initial_mark p = tag (64 * p)
+initial_mark p = first_tag_of p
 
--- Partition p at its beginning: it owns block p, of which the initial mark took the first tag, and nothing is live.
+-- Partition p at its beginning: it owns block p, of which the initial mark took the first tag, and
+-- nothing is live.
 abbrev pub opening : ℕ → PartitionState
 opening p = record {
   now = empty;

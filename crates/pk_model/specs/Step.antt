@@ -3,8 +3,8 @@ use Rattle.std.specs.Prelude.{ℕ, ◌+◌, ◌-◌, ◌/◌, ◌==◌, nat_lt, 
 use Rattle.std.specs.List.{list_all}
 use Rattle.std.specs.FinMap.{empty}
 use Rattle.pk_base.specs.Entity.{same_tag, same_optional}
-use Rattle.pk_base.specs.Listed.{bare}
 use Rattle.pk_base.specs.declared.tag.Tag.{Tag}
+use Rattle.pk_base.specs.declared.tag.TheConstants.{TAGS_OF_A_BLOCK}
 use Rattle.pk_base.specs.declared.list.MarkRow.{MarkRow}
 use Rattle.pk_base.specs.declared.act.Act.{Act}
 use Rattle.pk_base.specs.declared.act.Act.TheVariants as act
@@ -30,7 +30,7 @@ act_cost K s (act.Delta m) = 0
 
 -- the least number of blocks with which the spare tags suffice for so many
 abbrev pub blocks_short : ℕ → ℕ → ℕ
-blocks_short cost spare = (cost - spare + 63) / 64
+blocks_short cost spare = (cost - spare + (TAGS_OF_A_BLOCK - 1)) / TAGS_OF_A_BLOCK
 
 -- how many blocks are missing for the act
 abbrev pub short : Modelling → PartitionState → Act → ℕ
@@ -45,10 +45,12 @@ abbrev pub live_mark : Tag → Option Mark → Result Mark Refusal
 live_mark m None = Err (refusal.NotAMark m)
 live_mark m (Some k) = if k.live then Ok k else Err (refusal.MarkDeleted m)
 
--- The live mark of this tag among these. It is not ours where its block is not owned, else no mark where none ever had
--- it, else deleted where the mark is not live.
+-- The live mark of this tag among these. It is not ours where its block is not owned, else no mark
+-- where none ever had it, else deleted where the mark is not live.
 abbrev pub mark_among : List ℕ → List Mark → Tag → Result Mark Refusal
-mark_among blocks marks m = if owns blocks m then live_mark m (find (λ k. same_tag k.tag m) marks) else Err (refusal.NotOurs m)
+mark_among blocks marks m =
+    if owns blocks m then live_mark m (find (λ k. same_tag k.tag m) marks)
+    else Err (refusal.NotOurs m)
 
 abbrev pub mark_at : PartitionState → Tag → Result Mark Refusal
 mark_at s m = mark_among s.blocks s.marks m
@@ -57,12 +59,14 @@ abbrev pub parent_of : Mark → Result Tag Refusal
 parent_of k = elim k.parent [ None ↦ Err refusal.InitialMark | Some p ↦ Ok p ]
 
 -- a mark as it is once it is deleted
-abbrev pub deleted : Mark → Mark
-deleted k = record { tag = k.tag; parent = None; map = empty; live = false }
+abbrev pub deleted_mark : Mark → Mark
+deleted_mark k = record { tag = k.tag; parent = None; map = empty; live = false }
 
 -- a mark as it is once m, whose parent was p, is deleted
 abbrev pub after_deletion : Tag → Tag → Mark → Mark
-after_deletion m p k = if same_tag k.tag m then deleted k else (if same_optional k.parent (Some m) then record k { parent = Some p } else k)
+after_deletion m p k =
+    if same_tag k.tag m then deleted_mark k
+    else (if same_optional k.parent (Some m) then record k { parent = Some p } else k)
 
 abbrev pub row_of : Mark → MarkRow
 row_of k = record { tag = k.tag; parent = k.parent }
@@ -72,50 +76,56 @@ abbrev pub live_rows : List Mark → List MarkRow
 live_rows marks = map row_of (filter (λ k. k.live) marks)
 
 -- the state that an act reaches, and its reply
-pub record Reached : Type 0 where
+pub record Reach : Type 0 where
   pub state : PartitionState
   pub reply : Reply
 
-abbrev pub call_reaches : Modelling → PartitionState → ℕ → Outcome → Reached
-call_reaches K s cost o = record { state = record s { now = o.map; used = s.used + cost }; reply = o.reply }
+abbrev pub call_reaches : Modelling → PartitionState → ℕ → Outcome → Reach
+call_reaches K s cost o =
+    record { state = record s { now = o.map; used = s.used + cost }; reply = o.reply }
 
 -- a new live mark with the next tag, which stands for the state now, below the current mark
-abbrev pub mark_reaches : PartitionState → Tag → Reached
+abbrev pub mark_reaches : PartitionState → Tag → Reach
 mark_reaches s t = record {
   state = record s {
     marks = s.marks ++ record { tag = t; parent = Some s.at; map = s.now; live = true } ∷ [];
     at = t;
     used = s.used + 1;
   };
-  reply = reply.Made (bare (t ∷ []));
+  reply = reply.Made (t ∷ []);
 }
 
 -- what the mark stands for, and how it differs from what was left
-abbrev pub goto_reaches : PartitionState → Mark → Reached
-goto_reaches s k = record { state = record s { now = k.map; at = k.tag }; reply = reply.Went (diff s.now k.map) }
+abbrev pub goto_reaches : PartitionState → Mark → Reach
+goto_reaches s k =
+    record { state = record s { now = k.map; at = k.tag }; reply = reply.Went (diff s.now k.map) }
 
--- the mark is deleted, its children are its parent's, and so is the current place where it was this mark
-abbrev pub unmark_reaches : PartitionState → Tag → Tag → Reached
+-- the mark is deleted, its children are its parent's, and so is the current place where it was this
+-- mark
+abbrev pub unmark_reaches : PartitionState → Tag → Tag → Reach
 unmark_reaches s m p = record {
-  state = record s { marks = map (after_deletion m p) s.marks; at = if same_tag s.at m then p else s.at };
+  state = record s {
+    marks = map (after_deletion m p) s.marks;
+    at = if same_tag s.at m then p else s.at;
+  };
   reply = reply.Done;
 }
 
 -- What an act reaches, or why it is refused. A refusal changes nothing.
-abbrev pub reached : Modelling → PartitionState → Act → Result Reached Refusal
-reached K s (act.Call c) = do
+abbrev pub reach_of : Modelling → PartitionState → Act → Result Reach Refusal
+reach_of K s (act.Call c) = do
   o ← K.step s.now c (next_tags s.blocks s.used)
   Ok (call_reaches K s (K.cost s.now c) o)
-reached K s act.Mark = Ok (mark_reaches s (tag_at (next_tags s.blocks s.used) 0))
-reached K s (act.Goto m) = do
+reach_of K s act.Mark = Ok (mark_reaches s (tag_at (next_tags s.blocks s.used) 0))
+reach_of K s (act.Goto m) = do
   k ← mark_at s m
   Ok (goto_reaches s k)
-reached K s (act.Unmark m) = do
+reach_of K s (act.Unmark m) = do
   k ← mark_at s m
   p ← parent_of k
   Ok (unmark_reaches s m p)
-reached K s act.Marks = Ok (record { state = s; reply = reply.Marks s.at (bare (live_rows s.marks)) })
-reached K s (act.Delta m) = do
+reach_of K s act.Marks = Ok (record { state = s; reply = reply.Marks s.at (live_rows s.marks) })
+reach_of K s (act.Delta m) = do
   k ← mark_at s m
   p ← parent_of k
   q ← mark_at s p
@@ -126,17 +136,23 @@ pub record Stepped : Type 0 where
   pub state : PartitionState
   pub answer : Option (Result Reply Refusal)
 
-abbrev pub silent : PartitionState → Option Stepped
-silent s = Some (record { state = s; answer = None })
+abbrev pub without_answer : PartitionState → Option Stepped
+without_answer s = Some (record { state = s; answer = None })
 
-abbrev pub answered : PartitionState → Result Reached Refusal → Stepped
-answered s (Ok r) = record { state = r.state; answer = Some (Ok r.reply) }
-answered s (Err e) = record { state = s; answer = Some (Err e) }
+abbrev pub with_answer : PartitionState → Result Reach Refusal → Stepped
+with_answer s (Ok r) = record { state = r.state; answer = Some (Ok r.reply) }
+with_answer s (Err e) = record { state = s; answer = Some (Err e) }
 
 -- what the entry gives; nothing where it is not defined
 abbrev pub step : Modelling → PartitionState → Entry → Option Stepped
-step K s (Claimed t) = if is_none s.holder then silent (record s { holder = Some t }) else None
-step K s (Released t) = if holds s t then silent (record s { holder = None }) else None
-step K s (Drew t b) = if holds s t && list_all (λ o. nat_lt o b) s.blocks then silent (record s { blocks = s.blocks ++ b ∷ [] }) else None
-step K s (Did t a) = if holds s t && (short K s a == 0) then Some (answered s (reached K s a)) else None
-step K s (Spent t next a) = if holds s t && not (short K s a == 0) then Some (record { state = s; answer = Some (Err (refusal.TagsSpent next)) }) else None
+step K s (Claimed t) =
+    if is_none s.holder then without_answer (record s { holder = Some t }) else None
+step K s (Released t) = if holds s t then without_answer (record s { holder = None }) else None
+step K s (Drew t b) =
+    if holds s t && list_all (λ o. nat_lt o b) s.blocks
+    then without_answer (record s { blocks = s.blocks ++ b ∷ [] }) else None
+step K s (Did t a) =
+    if holds s t && (short K s a == 0) then Some (with_answer s (reach_of K s a)) else None
+step K s (Spent t next a) =
+    if holds s t && not (short K s a == 0)
+    then Some (record { state = s; answer = Some (Err (refusal.TagsSpent next)) }) else None

@@ -1,18 +1,13 @@
--- Tags and the blocks in which a partition owns them.
-use Rattle.std.specs.Prelude.{ℕ, ◌-◌, ◌*◌, ◌/◌, ◌<◌, ◌≤◌, ◌==◌, Bool, List, [], ◌∷◌, map, length, drop, slice_index_or}
+-- The tags of the blocks that a partition owns.
+use Rattle.std.specs.Prelude.{ℕ, ◌-◌, ◌*◌, ◌<◌, ◌≤◌, ◌==◌, Bool, List, [], ◌∷◌, map, length, drop, slice_index_or}
 use Rattle.std.specs.List.{range_with_len, list_any, flat_map, AllByRecursion}
+use Rattle.pk_base.specs.Blocks.{tag, block_of}
 use Rattle.pk_base.specs.declared.tag.Tag.{Tag}
+use Rattle.pk_base.specs.declared.tag.TheConstants.{TAGS_OF_A_BLOCK, LAST_BLOCK}
 
-abbrev pub tag : ℕ → Tag
-tag n = record { 0 = n }
-
--- the block that a tag stands in
-abbrev pub block_of : Tag → ℕ
-block_of t = t.0 / 64
-
--- the 64 tags of a block, ascending
+-- the tags of a block, ascending
 unfoldable pub tags_of_block : ℕ → List Tag
-tags_of_block b = map tag (range_with_len (64 * b) 64)
+tags_of_block b = map tag (range_with_len (TAGS_OF_A_BLOCK * b) TAGS_OF_A_BLOCK)
 
 -- the tags of blocks: those of the first, then those of the next
 unfoldable pub tags_of : List ℕ → List Tag
@@ -23,9 +18,14 @@ abbrev pub Ascends : List ℕ → Type 0
 Ascends [] = Unit {0}
 Ascends (b ∷ bs) = AllByRecursion (λ c. b < c) bs × Ascends bs
 
--- each block is one that there may be: from 1 to 262,143
+-- each tag is below all later ones, so none stands twice
+abbrev pub TagsAscend : List Tag → Type 0
+TagsAscend [] = Unit {0}
+TagsAscend (t ∷ ts) = AllByRecursion (λ u. t.0 < u.0) ts × TagsAscend ts
+
+-- each block is one that there may be
 abbrev pub AreInRange : List ℕ → Type 0
-AreInRange blocks = AllByRecursion (λ b. (1 ≤ b) × (b ≤ 262143)) blocks
+AreInRange blocks = AllByRecursion (λ b. (1 ≤ b) × (b ≤ LAST_BLOCK)) blocks
 
 -- whether the tag's block is one of these
 abbrev pub owns : List ℕ → Tag → Bool
@@ -33,7 +33,7 @@ owns blocks t = list_any (λ b. b == block_of t) blocks
 
 -- how many tags of the blocks are left, once `used` were taken
 abbrev pub spare_of : List ℕ → ℕ → ℕ
-spare_of blocks used = 64 * length blocks - used
+spare_of blocks used = TAGS_OF_A_BLOCK * length blocks - used
 
 -- the tags after the first `used`
 abbrev pub next_tags : List ℕ → ℕ → List Tag

@@ -1,4 +1,5 @@
-//! Where a program's bytes come from and where they go: sources, sinks, and reading and writing all.
+//! Where a program's bytes come from and where they go: sources, sinks, and reading and writing
+//! all.
 #![tactic(auto)]
 
 pub use memory::{MemSink, MemSource};

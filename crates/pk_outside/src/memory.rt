@@ -30,15 +30,21 @@ impl Model for MemSource {
 
     ghost Value = { Giving };
 
-    ghost view = { λ s. record { left = drop s.at s.bytes.items; most = s.most; failing = s.failing.items; calls = s.calls; faults = s.failed } };
+    ghost view = { λ s. record {
+      left = drop s.at s.bytes.items;
+      most = s.most;
+      failing = s.failing.items;
+      calls = s.calls;
+      faults = s.failed;
+    } };
 
     ghost invariant = { λ s. (s.at ≤ vec_len s.bytes) × (1 ≤ s.most) };
 }
 
 impl MemSource {
-    /// A source of these bytes. Its calls with a buffer that is not empty are numbered from 1. Such a call fails where
-    /// its number is listed in `failing`, and else gives `most` bytes, which is 1 at least, or as many as the buffer takes
-    /// or are left.
+    /// A source of these bytes. Its calls with a buffer that is not empty are numbered from 1. Such
+    /// a call fails where its number is listed in `failing`, and else gives `most` bytes, which is
+    /// 1 at least, or as many as the buffer takes or are left.
     pub fn new(
         alloc: Global,
         bytes: &[u8],
@@ -46,7 +52,13 @@ impl MemSource {
         failing: &[u32],
     ) -> Result<MemSource, NoMemory>
         requires { 1 ≤ most }
-        ensures { IfOk result (λ s. s ≡ record { left = bytes.now; most = most; failing = failing.now; calls = 0; faults = 0 }) }
+        ensures { IfOk result (λ s. s ≡ record {
+          left = bytes.now;
+          most = most;
+          failing = failing.now;
+          calls = 0;
+          faults = 0;
+        }) }
     {
         Ok(MemSource {
             bytes: Vec::from_slice(alloc, bytes)?,
@@ -68,7 +80,8 @@ impl Source for MemSource {
 
     fn read(&mut self, into: &mut [u8]) -> Result<usize, Failed>
         ensures within { IfOk result (λ k. k ≤ length into.old) }
-        ensures taken { IfOk result (λ k. Takes (Some self.old.left) (Some self.new.left) (take k into.new)) }
+        ensures taken { IfOk result (λ k. Takes (Some self.old.left) (Some self.new.left)
+            (take k into.new)) }
         ensures end { result ≡ Ok 0 → 0 < length into.old → IsAtEnd (Some self.old.left) }
         ensures failed { OnErr result (HasFailed self.old.faults self.new.faults) }
         ensures unread { OnErr result (Some self.new.left ≡ Some self.old.left) }
@@ -79,8 +92,10 @@ impl Source for MemSource {
         ensures idle { length into.old ≡ 0 → self.new ≡ self.old }
 
         // It fails exactly where it is told to, and else gives as much as it may.
-        ensures fails { IsErr result ↔ ((0 < length into.old) × Contains self.old.failing (counted_on self.old.calls)) }
-        ensures gives { IfOk result (λ k. k ≡ min self.old.most (min (length into.old) (length self.old.left))) }
+        ensures fails { IsErr result ↔ ((0 < length into.old)
+            × Contains self.old.failing (counted_on self.old.calls)) }
+        ensures gives { IfOk result (λ k.
+            k ≡ min self.old.most (min (length into.old) (length self.old.left))) }
         ensures kept { (self.new.most ≡ self.old.most) × (self.new.failing ≡ self.old.failing) }
     {
         if into.is_empty() {
@@ -116,16 +131,24 @@ impl Model for MemSink {
 
     ghost Value = { Taking };
 
-    ghost view = { λ s. record { held = s.bytes.items; room = s.room; most = s.most; failing = s.failing.items; calls = s.calls; faults = s.failed } };
+    ghost view = { λ s. record {
+      held = s.bytes.items;
+      room = s.room;
+      most = s.most;
+      failing = s.failing.items;
+      calls = s.calls;
+      faults = s.failed;
+    } };
 
-    ghost invariant = { λ s. (vec_len s.bytes ≤ s.room) × (s.room ≤ vec_capacity s.bytes) × (1 ≤ s.most) };
+    ghost invariant = { λ s. (vec_len s.bytes ≤ s.room) × (s.room ≤ vec_capacity s.bytes)
+        × (1 ≤ s.most) };
 }
 
 impl MemSink {
-    /// A sink that holds nothing yet, with room for `room` bytes: it takes all its memory here. Its calls with a piece
-    /// that is not empty are numbered from 1. Such a call fails where its number is listed in `failing` and where
-    /// there is no room left, and else takes `most` bytes, which is 1 at least, or as many as the piece has or there is
-    /// room for.
+    /// A sink that holds nothing yet, with room for `room` bytes: it takes all its memory here. Its
+    /// calls with a piece that is not empty are numbered from 1. Such a call fails where its number
+    /// is listed in `failing` and where there is no room left, and else takes `most` bytes, which
+    /// is 1 at least, or as many as the piece has or there is room for.
     pub fn new(
         alloc: Global,
         room: usize,
@@ -133,7 +156,14 @@ impl MemSink {
         failing: &[u32],
     ) -> Result<MemSink, NoMemory>
         requires { 1 ≤ most }
-        ensures { IfOk result (λ s. s ≡ record { held = []; room = room; most = most; failing = failing.now; calls = 0; faults = 0 }) }
+        ensures { IfOk result (λ s. s ≡ record {
+          held = [];
+          room = room;
+          most = most;
+          failing = failing.now;
+          calls = 0;
+          faults = 0;
+        }) }
     {
         Ok(MemSink {
             bytes: Vec::with_capacity(alloc, room)?,
@@ -164,7 +194,8 @@ impl Sink for MemSink {
     fn write(&mut self, piece: &[u8]) -> Result<usize, Failed>
         ensures within { IfOk result (λ k. k ≤ length piece.now) }
         ensures some { 0 < length piece.now → IfOk result (λ k. 0 < k) }
-        ensures grown { IfOk result (λ k. Grows (Some self.old.held) (Some self.new.held) (take k piece.now)) }
+        ensures grown { IfOk result (λ k. Grows (Some self.old.held) (Some self.new.held)
+            (take k piece.now)) }
         ensures failed { OnErr result (HasFailed self.old.faults self.new.faults) }
         ensures unwritten { OnErr result (Some self.new.held ≡ Some self.old.held) }
         ensures unfailed { OnOk result (self.new.faults ≡ self.old.faults) }
@@ -175,9 +206,12 @@ impl Sink for MemSink {
 
         // It fails exactly where it is told to or is full, and else takes as much as it may.
         ensures fails { IsErr result ↔ ((0 < length piece.now)
-            × (Contains self.old.failing (counted_on self.old.calls) ⊎ (length self.old.held ≡ self.old.room))) }
-        ensures takes { IfOk result (λ k. k ≡ min self.old.most (min (length piece.now) (self.old.room - length self.old.held))) }
-        ensures kept { (self.new.room ≡ self.old.room) × (self.new.most ≡ self.old.most) × (self.new.failing ≡ self.old.failing) }
+            × (Contains self.old.failing (counted_on self.old.calls)
+            ⊎ (length self.old.held ≡ self.old.room))) }
+        ensures takes { IfOk result (λ k.
+            k ≡ min self.old.most (min (length piece.now) (self.old.room - length self.old.held))) }
+        ensures kept { (self.new.room ≡ self.old.room) × (self.new.most ≡ self.old.most)
+            × (self.new.failing ≡ self.old.failing) }
     {
         if piece.is_empty() {
             return Ok(0);

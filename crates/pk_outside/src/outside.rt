@@ -13,14 +13,16 @@ pub trait Source {
     /// The bytes still to come, where it tells them.
     ghost left: { Self → Option (List ℕ) };
 
-    /// How often it was read into a buffer that is not empty. The count stands still at the greatest `u64`.
+    /// How often it was read into a buffer that is not empty. The count stands still at the
+    /// greatest `u64`.
     ghost calls: { Self → ℕ };
 
     /// How often a read has failed. The count stands still at the greatest `u64`.
     ghost faults: { Self → ℕ };
 
-    /// Reads the next bytes into the front of the buffer, and answers how many. Where the buffer is not empty, `Ok(0)`
-    /// means the end. `Failed` leaves what is still to come. A read into an empty buffer changes nothing.
+    /// Reads the next bytes into the front of the buffer, and answers how many. Where the buffer is
+    /// not empty, `Ok(0)` means the end. `Failed` leaves what is still to come. A read into an
+    /// empty buffer changes nothing.
     fn read(&mut self, into: &mut [u8]) -> Result<usize, Failed>
         ensures within { IfOk result (λ k. k ≤ length into.old) }
         ensures taken { IfOk result (λ k. Takes (left self.old) (left self.new) (take k into.new)) }
@@ -39,18 +41,20 @@ pub trait Sink {
     /// The bytes that it holds, where it tells them.
     ghost held: { Self → Option (List ℕ) };
 
-    /// How often a piece that is not empty was written. The count stands still at the greatest `u64`.
+    /// How often a piece that is not empty was written. The count stands still at the greatest
+    /// `u64`.
     ghost calls: { Self → ℕ };
 
     /// How often a write has failed. The count stands still at the greatest `u64`.
     ghost faults: { Self → ℕ };
 
-    /// Writes bytes of the piece's front, at least one where the piece is not empty, and answers how many. `Failed`
-    /// leaves what is held. A write of an empty piece changes nothing.
+    /// Writes bytes of the piece's front, at least one where the piece is not empty, and answers
+    /// how many. `Failed` leaves what is held. A write of an empty piece changes nothing.
     fn write(&mut self, piece: &[u8]) -> Result<usize, Failed>
         ensures within { IfOk result (λ k. k ≤ length piece.now) }
         ensures some { 0 < length piece.now → IfOk result (λ k. 0 < k) }
-        ensures grown { IfOk result (λ k. Grows (held self.old) (held self.new) (take k piece.now)) }
+        ensures grown { IfOk result (λ k. Grows (held self.old) (held self.new)
+            (take k piece.now)) }
         ensures failed { OnErr result (HasFailed (faults self.old) (faults self.new)) }
         ensures unwritten { OnErr result (held self.new ≡ held self.old) }
         ensures unfailed { OnOk result (faults self.new ≡ faults self.old) }

@@ -42,18 +42,24 @@ impl From<AllocError> for ReadNo {
 // How many bytes are asked for at a time.
 const PIECE: usize = 4096;
 
-/// Reads to the end. It stops at the first read that fails with `Fault`, and at the first byte above `MOST_INPUT` with
-/// `TooLong`; the bytes read before are let go. Each read but the last gives a byte at least.
+/// Reads to the end. It stops at the first read that fails with `Fault`, and at the first byte
+/// above `MOST_INPUT` with `TooLong`; the bytes read before are let go. Each read but the last
+/// gives a byte at least.
 pub fn read_all<S: Source>(alloc: Global, source: &mut S) -> Result<Vec<u8>, ReadNo>
     ensures bytes { IfOk result (λ v. Takes (S.left source.old) (S.left source.new) v.items) }
     ensures ended { OnOk result (IsAtEnd (S.left source.new)) }
     ensures within { IfOk result (λ v. vec_len v ≤ MOST_INPUT) }
-    ensures too_long { IsErrOf result ReadNo.TooLong → Took (λ n. n ≡ MOST_INPUT + 1) (S.left source.old) (S.left source.new) }
-    ensures cut { IsErrOf result ReadNo.Fault → Took (λ n. n ≤ MOST_INPUT) (S.left source.old) (S.left source.new) }
-    ensures fault { IsErrOf result ReadNo.Fault → HasFailed (S.faults source.old) (S.faults source.new) }
+    ensures too_long { IsErrOf result ReadNo.TooLong
+        → Took (λ n. n ≡ MOST_INPUT + 1) (S.left source.old) (S.left source.new) }
+    ensures cut { IsErrOf result ReadNo.Fault
+        → Took (λ n. n ≤ MOST_INPUT) (S.left source.old) (S.left source.new) }
+    ensures fault { IsErrOf result ReadNo.Fault
+        → HasFailed (S.faults source.old) (S.faults source.new) }
     ensures no_fault { ¬ (IsErrOf result ReadNo.Fault) → S.faults source.new ≡ S.faults source.old }
     ensures counted { S.faults source.old ≤ S.faults source.new }
     ensures calls { S.calls source.new ≤ S.calls source.old + (MOST_INPUT + 1) }
+    ensures calls_by_bytes { Took (λ n. S.calls source.new ≤ S.calls source.old + (n + 1))
+        (S.left source.old) (S.left source.new) }
 {
     let mut piece = [0; PIECE];
     let mut bytes = Vec::new(alloc);
@@ -68,11 +74,12 @@ pub fn read_all<S: Source>(alloc: Global, source: &mut S) -> Result<Vec<u8>, Rea
     Err(ReadNo::TooLong)
 }
 
-/// Writes all the bytes, and stops at the first write that fails: a prefix of them is then written. Each other write takes
-/// a byte at least.
+/// Writes all the bytes, and stops at the first write that fails: a prefix of them is then written.
+/// Each other write takes a byte at least.
 pub fn write_all<K: Sink>(sink: &mut K, bytes: &[u8]) -> Result<(), Failed>
     ensures ok { OnOk result (Grows (K.held sink.old) (K.held sink.new) bytes.now) }
-    ensures prefix { OnErr result ((n : ℕ) × (n ≤ length bytes.now) × Grows (K.held sink.old) (K.held sink.new) (take n bytes.now)) }
+    ensures prefix { OnErr result ((n : ℕ) × (n ≤ length bytes.now)
+        × Grows (K.held sink.old) (K.held sink.new) (take n bytes.now)) }
     ensures failed { OnErr result (HasFailed (K.faults sink.old) (K.faults sink.new)) }
     ensures unfailed { OnOk result (K.faults sink.new ≡ K.faults sink.old) }
     ensures counted { K.faults sink.old ≤ K.faults sink.new }
@@ -107,6 +114,21 @@ mod tests {
         assert_eq!(rt; read_all(alloc, &mut first).err(), Some(ReadNo::Fault));
         let mut at_the_end = MemSource::new(alloc, b"END\n", 2, &[3])?;
         assert_eq!(rt; read_all(alloc, &mut at_the_end).err(), Some(ReadNo::Fault));
+        Ok(())
+    }
+
+    #[test]
+    fn each_error_has_its_message(rt: HostRuntime) -> Result<(), Fail> {
+        let alloc = rt.alloc();
+        let failed = format!(in alloc; "{Failed}")?;
+        assert_eq!(rt; failed.as_str(), "a read or a write failed");
+        for (no, message) in [
+            (ReadNo::TooLong, "the input has more than 4194304 bytes"),
+            (ReadNo::Fault, "a read failed"),
+            (ReadNo::NoMemory, "no memory"),
+        ] {
+            assert_eq!(rt; format!(in alloc; "{no}")?.as_str(), message);
+        }
         Ok(())
     }
 

@@ -1,14 +1,13 @@
 -- What an act of thread 1 in its partition says, and what it keeps.
-use Rattle.std.proofs.Common.{◌≡◌, ℕ, ◌+◌, ◌-◌, ◌≤◌, ◌<◌, ◌==◌, ◌&&◌, Bool, true, false, cond, List, [], ◌∷◌, ◌++◌, map, length, take, get_or, suc, ℤ, Option, None, Some, unwrap_or, Result, Ok, Err, refl, sym, ap, subst, ◌∙◌, arith}
+use Rattle.std.proofs.Common.{◌≡◌, ℕ, ◌+◌, ◌-◌, ◌≤◌, ◌<◌, ◌==◌, ◌&&◌, Bool, true, false, cond, List, [], ◌∷◌, ◌++◌, length, take, get_or, suc, ℤ, Option, None, Some, unwrap_or, Result, Ok, Err, refl, sym, ap, subst, ◌∙◌, arith}
 use Rattle.std.proofs.Math.Seq.{take-suc}
-use Rattle.std.proofs.lemmas.List.{append_assoc, map-append}
+use Rattle.std.proofs.lemmas.List.{append_assoc}
 use Rattle.std.specs.Prelude.{IfOk}
 use Rattle.std.specs.List.{AllByRecursion}
-use Rattle.pk_base.specs.Plain.{plain_act, plain_reply}
 use Rattle.pk_base.specs.declared.tag.Tag.{Tag}
 use Rattle.pk_base.specs.declared.entity.Name.{Name}
 use Rattle.pk_base.specs.declared.entity.Triple.{Triple}
-use Rattle.pk_base.specs.declared.act.Call.TheVariants.{Mvfs}
+use Rattle.pk_base.specs.declared.call.Call.{Call}
 use Rattle.pk_base.specs.declared.act.Act.{Act}
 use Rattle.pk_base.specs.declared.act.Act.TheVariants as act
 use Rattle.pk_base.specs.declared.act.Entry.TheVariants.{Did}
@@ -17,34 +16,32 @@ use Rattle.pk_base.specs.declared.refusal.Refusal.{Refusal}
 use Rattle.pk_base.specs.declared.refusal.Fault.{Fault}
 use Rattle.pk_base.specs.declared.refusal.Fault.TheVariants as fault
 use Rattle.pk_model.specs.State.{Mark, PartitionState, holds}
-use Rattle.pk_model.specs.Modelling.{Outcome}
-use Rattle.pk_model.specs.Step.{short, step, Stepped, answered, reached, mark_at}
+use Rattle.pk_model.specs.Modelling.{Modelling, Outcome}
+use Rattle.pk_model.specs.Step.{short, step, Stepped, with_answer, reach_of, mark_at}
 use Rattle.pk_model.specs.Tags.{next_tags}
-use Rattle.pk_model.specs.VertexBodies.{vertex_bodies, vertex_step, mvfs_cost, first_outside}
-use Rattle.pk_model.proofs.Steps.{reached-call, reached-call_refused, reached-goto, reached-goto_refused}
+use Rattle.pk_model.specs.VertexBodies.{vertex_bodies, vertex_step, mvfs_cost, first_outside, place_of, cost_at}
+use Rattle.pk_model.proofs.Steps.{reach_of-call, reach_of-call_refused, reach_of-goto, reach_of-goto_refused}
 use Rattle.pk_model.proofs.TagLists.{ByRecursion-get_or}
 use Rattle.partition.specs.Partition.{PartitionView, Appends, Answers, holder_of}
-use Rattle.script_text.specs.Plain.{plain_line, plain_said}
-use Rattle.script_runner.specs.Run.{IsActLine, IsBuilt}
+use Rattle.script_runner.specs.Built.{IsActLine, is_built}
 use Rattle.script_text.specs.Form.{act_line}
-use Rattle.script_runner.specs.Runs.{Does, HasRoom, SaysOf, Tells}
+use Rattle.script_runner.specs.OneThread.{Does, HasRoom, SaysOf, Tells}
 use Rattle.script_text.specs.declared.script.Operand.{Operand}
 use Rattle.script_text.specs.declared.script.Order.TheVariants.{On}
 use Rattle.script_text.specs.declared.script.ScriptLine.{ScriptLine}
-use Rattle.script_text.proofs.PlainLines.{plain_act_is}
 use Rattle.script_text.specs.declared.report.Line.{Line}
 use Rattle.script_text.specs.declared.report.LineSaid.{LineSaid}
 
 -- ---- what is said
 
-appends_by : (old new : PartitionView) (a : Act) (answer : Option (Result Reply Refusal)) → old.state.holder ≡ Some 1 → Appends old (Did (holder_of old) a) answer new → Appends old (Did 1 a) answer new
-appends_by old new a answer held h = subst (λ t. Appends old (Did t a) answer new) (ap (λ o. unwrap_or o 0) held) h
+appends_by : (K : Modelling) (old new : PartitionView) (a : Act) (answer : Option (Result Reply Refusal)) → old.state.holder ≡ Some 1 → Appends K old (Did (holder_of old) a) answer new → Appends K old (Did 1 a) answer new
+appends_by K old new a answer held h = subst (λ t. Appends K old (Did t a) answer new) (ap (λ o. unwrap_or o 0) held) h
 
-pub tells : {E : Type 0} (old new : PartitionView) (a : Act) (r : Result Reply Fault) (said : Result LineSaid E) → old.state.holder ≡ Some 1 → Answers old a r new → SaysOf r said → IfOk said (λ s. Tells old a (plain_said s) new)
-tells old new a (Ok r) said held h says = subst (λ o. IfOk o (λ s. Tells old a (plain_said s) new)) (sym says) (Ok (plain_reply r), (appends_by old new a _ held h, refl))
-tells old new a (Err (fault.Refused e)) said held h says = subst (λ o. IfOk o (λ s. Tells old a (plain_said s) new)) (sym says) (Err e, (appends_by old new a _ held h, refl))
-tells old new a (Err fault.NoMemory) (Err e) held h says = cc
-tells old new a (Err fault.NoMemory) (Ok s) held h says = absurd (cc)
+pub tells : (K : Modelling) {E : Type 0} (old new : PartitionView) (a : Act) (r : Result Reply Fault) (said : Result LineSaid E) → old.state.holder ≡ Some 1 → Answers K old a r new → SaysOf r said → IfOk said (λ s. Tells K old a s new)
+tells K old new a (Ok r) said held h says = subst (λ o. IfOk o (λ s. Tells K old a s new)) (sym says) (Ok r, (appends_by K old new a _ held h, refl))
+tells K old new a (Err (fault.Refused e)) said held h says = subst (λ o. IfOk o (λ s. Tells K old a s new)) (sym says) (Err e, (appends_by K old new a _ held h, refl))
+tells K old new a (Err fault.NoMemory) (Err e) held h says = cc
+tells K old new a (Err fault.NoMemory) (Ok s) held h says = absurd (cc)
 
 -- ---- what is kept
 
@@ -61,28 +58,32 @@ cost_few : (o : Option ℤ) → mvfs_cost o ≤ 5
 cost_few None = omega arith
 cost_few (Some v) = omega arith
 
-call_keeps : (s : PartitionState) (at : Triple) (r : Result Outcome Refusal) → vertex_step s.now (Mvfs at) (next_tags s.blocks s.used) ≡ r → Keeps s (answered s (reached vertex_bodies s (act.Call (Mvfs at)))).state
-call_keeps s at (Ok o) is = let few = cost_few (first_outside at) in subst (λ r. Keeps s (answered s r).state) (sym (reached-call s (Mvfs at) o is)) (record { holder = refl; blocks = refl; used = omega (arith, few) })
-call_keeps s at (Err e) is = subst (λ r. Keeps s (answered s r).state) (sym (reached-call_refused s (Mvfs at) e is)) (keeps_same s)
+place_few : (o : Option Triple) → cost_at o ≤ 5
+place_few None = omega arith
+place_few (Some at) = cost_few (first_outside at)
 
-goto_keeps : (s : PartitionState) (m : Tag) (r : Result Mark Refusal) → mark_at s m ≡ r → Keeps s (answered s (reached vertex_bodies s (act.Goto m))).state
-goto_keeps s m (Ok k) is = subst (λ r. Keeps s (answered s r).state) (sym (reached-goto s m k is)) (record { holder = refl; blocks = refl; used = omega arith })
-goto_keeps s m (Err e) is = subst (λ r. Keeps s (answered s r).state) (sym (reached-goto_refused s m e is)) (keeps_same s)
+call_keeps : (s : PartitionState) (c : Call) (r : Result Outcome Refusal) → vertex_step s.now c (next_tags s.blocks s.used) ≡ r → Keeps s (with_answer s (reach_of vertex_bodies s (act.Call c))).state
+call_keeps s c (Ok o) is = let few = place_few (place_of c) in subst (λ r. Keeps s (with_answer s r).state) (sym (reach_of-call vertex_bodies s c o is)) (record { holder = refl; blocks = refl; used = omega (arith, few) })
+call_keeps s c (Err e) is = subst (λ r. Keeps s (with_answer s r).state) (sym (reach_of-call_refused vertex_bodies s c e is)) (keeps_same s)
 
-answered_keeps : (s : PartitionState) (a : Act) → IsBuilt a → Keeps s (answered s (reached vertex_bodies s a)).state
-answered_keeps s (act.Call (Mvfs at)) b = call_keeps s at _ refl
+goto_keeps : (s : PartitionState) (m : Tag) (r : Result Mark Refusal) → mark_at s m ≡ r → Keeps s (with_answer s (reach_of vertex_bodies s (act.Goto m))).state
+goto_keeps s m (Ok k) is = subst (λ r. Keeps s (with_answer s r).state) (sym (reach_of-goto vertex_bodies s m k is)) (record { holder = refl; blocks = refl; used = omega arith })
+goto_keeps s m (Err e) is = subst (λ r. Keeps s (with_answer s r).state) (sym (reach_of-goto_refused vertex_bodies s m e is)) (keeps_same s)
+
+answered_keeps : (s : PartitionState) (a : Act) → is_built a ≡ true → Keeps s (with_answer s (reach_of vertex_bodies s a)).state
+answered_keeps s (act.Call c) b = call_keeps s c _ refl
 answered_keeps s act.Mark b = record { holder = refl; blocks = refl; used = omega arith }
 answered_keeps s (act.Goto m) b = goto_keeps s m _ refl
-answered_keeps s (act.Unmark m) b = elim b [ ]
-answered_keeps s act.Marks b = elim b [ ]
-answered_keeps s (act.Delta m) b = elim b [ ]
+answered_keeps s (act.Unmark m) b = absurd (cc)
+answered_keeps s act.Marks b = absurd (cc)
+answered_keeps s (act.Delta m) b = absurd (cc)
 
-did_by : (s : PartitionState) (a : Act) (defined : Bool) (r : Stepped) → IsBuilt a → cond defined (Some (answered s (reached vertex_bodies s a))) None ≡ Some r → Keeps s r.state
+did_by : (s : PartitionState) (a : Act) (defined : Bool) (r : Stepped) → is_built a ≡ true → cond defined (Some (with_answer s (reach_of vertex_bodies s a))) None ≡ Some r → Keeps s r.state
 did_by s a false r b h = absurd (cc)
-did_by s a true r b h = let e : answered s (reached vertex_bodies s a) ≡ r = cc in subst (λ (x : Stepped). Keeps s x.state) e (answered_keeps s a b)
+did_by s a true r b h = let e : with_answer s (reach_of vertex_bodies s a) ≡ r = cc in subst (λ (x : Stepped). Keeps s x.state) e (answered_keeps s a b)
 
 -- an act that is built keeps the holder and the blocks
-pub did_keeps : (s : PartitionState) (a : Act) (r : Stepped) → IsBuilt a → step vertex_bodies s (Did 1 a) ≡ Some r → Keeps s r.state
+pub did_keeps : (s : PartitionState) (a : Act) (r : Stepped) → is_built a ≡ true → step vertex_bodies s (Did 1 a) ≡ Some r → Keeps s r.state
 did_keeps s a r b h = did_by s a (holds s 1 && (short vertex_bodies s a == 0)) r b h
 
 -- ---- lines that are done
@@ -91,15 +92,15 @@ did_keeps s a r b h = did_by s a (holds s 1 && (short vertex_bodies s a == 0)) r
 pub one_line_more : (first old new more : List Line) (m : Line) → new ≡ old ++ m ∷ [] → old ≡ first ++ more → new ≡ first ++ (more ++ m ∷ [])
 one_line_more first old new more m pushed was = pushed ∙ ap (λ ls. ls ++ m ∷ []) was ∙ append_assoc first more (m ∷ [])
 
-pub does_push : (old mid new : PartitionView) (ls : List ScriptLine) (ms : List Line) (l : ScriptLine) (m : Line) (a : Act) → m.number ≡ l.number → l ≡ act_line l.number a → Does old ls ms mid → Tells mid a m.said new → Does old (ls ++ l ∷ []) (ms ++ m ∷ []) new
-does_push old mid new [] [] l m a n is h t = (n, (a, (is, (new, (subst (λ (v : PartitionView). Tells v a m.said new) h t, refl)))))
-does_push old mid new (x ∷ ls) (y ∷ ms) l m a n is h t =
-    (h.0, (h.1.0, (h.1.1.0, (h.1.1.1.0, (h.1.1.1.1.0, does_push h.1.1.1.0 mid new ls ms l m a n is h.1.1.1.1.1 t)))))
-does_push old mid new [] (y ∷ ms) l m a n is h t = elim h [ ]
-does_push old mid new (x ∷ ls) [] l m a n is h t = elim h [ ]
+pub does_push : (K : Modelling) (old mid new : PartitionView) (ls : List ScriptLine) (ms : List Line) (l : ScriptLine) (m : Line) (a : Act) → m.number ≡ l.number → l ≡ act_line l.number a → Does K old ls ms mid → Tells K mid a m.said new → Does K old (ls ++ l ∷ []) (ms ++ m ∷ []) new
+does_push K old mid new [] [] l m a n is h t = (n, (a, (is, (new, (subst (λ (v : PartitionView). Tells K v a m.said new) h t, refl)))))
+does_push K old mid new (x ∷ ls) (y ∷ ms) l m a n is h t =
+    (h.0, (h.1.0, (h.1.1.0, (h.1.1.1.0, (h.1.1.1.1.0, does_push K h.1.1.1.0 mid new ls ms l m a n is h.1.1.1.1.1 t)))))
+does_push K old mid new [] (y ∷ ms) l m a n is h t = elim h [ ]
+does_push K old mid new (x ∷ ls) [] l m a n is h t = elim h [ ]
 
 -- an act that was told leaves the holder, and room for the rest
-pub tells_keeps : (old new : PartitionView) (a : Act) (said : LineSaid) → IsBuilt a → Tells old a said new → Keeps old.state new.state
+pub tells_keeps : (old new : PartitionView) (a : Act) (said : LineSaid) → is_built a ≡ true → Tells vertex_bodies old a said new → Keeps old.state new.state
 tells_keeps old new a said b t = did_keeps old.state a _ b t.1.0.steps
 
 pub room_left : (old new : PartitionState) (n k : ℕ) → Keeps old new → k < n → HasRoom old (n - k) → HasRoom new (n - (k + 1))
@@ -110,7 +111,7 @@ room_for_one s n k more room = omega (arith, more, room)
 
 -- an act line at its place among those that are done
 pub record IsNextAct (acts : List ScriptLine) (k : ℕ) (l : ScriptLine) (a : Act) : Type 0 where
-  pub built : IsBuilt a
+  pub built : is_built a ≡ true
   pub line : l ≡ act_line l.number a
   pub taken : take (k + 1) acts ≡ take k acts ++ l ∷ []
 
@@ -120,17 +121,16 @@ one_more k = omega arith
 same_act : (l : ScriptLine) (a b : Act) (p : ℕ) (operands : List Operand) (bind : Option Name) → l ≡ act_line l.number a → l.order ≡ On p b operands bind → a ≡ b
 same_act l a b p operands bind is on = cc
 
-pub next_act : (acts : List ScriptLine) (k : ℕ) (l : ScriptLine) (a : Act) (p : ℕ) (operands : List Operand) (bind : Option Name) → AllByRecursion IsActLine acts → k < length acts → l ≡ get_or acts k l → l.order ≡ On p a operands bind → IsNextAct acts k l (plain_act a)
+pub next_act : (acts : List ScriptLine) (k : ℕ) (l : ScriptLine) (a : Act) (p : ℕ) (operands : List Operand) (bind : Option Name) → AllByRecursion IsActLine acts → k < length acts → l ≡ get_or acts k l → l.order ≡ On p a operands bind → IsNextAct acts k l a
 next_act acts k l a p operands bind each less is on =
     let x = subst IsActLine (sym is) (ByRecursion-get_or IsActLine acts k l less each) in
-    let same = same_act l x.0 a p operands bind x.1.1 on ∙ sym (plain_act_is a) in
+    let same = same_act l x.0 a p operands bind x.1.1 on in
     record {
-      built = subst IsBuilt same x.1.0;
+      built = subst (λ b. is_built b ≡ true) same x.1.0;
       line = subst (λ b. l ≡ act_line l.number b) same x.1.1;
       taken = ap (λ n. take n acts) (one_more k) ∙ take-suc acts k l less ∙ ap (λ y. take k acts ++ y ∷ []) (sym is);
     }
 
-pub does_next : (first old new : PartitionView) (acts : List ScriptLine) (k : ℕ) (l : ScriptLine) (a : Act) (more : List Line) (m : Line) → IsNextAct acts k l a → m.number ≡ l.number → Does first (take k acts) (map plain_line more) old → Tells old a (plain_said m.said) new → Does first (take (k + 1) acts) (map plain_line (more ++ m ∷ [])) new
-does_next first old new acts k l a more m next n does t =
-    subst (λ ls. Does first ls (map plain_line (more ++ m ∷ [])) new) (sym next.taken)
-    (subst (λ ms. Does first (take k acts ++ l ∷ []) ms new) (sym (map-append plain_line more (m ∷ []))) (does_push first old new (take k acts) (map plain_line more) l (plain_line m) a n next.line does t))
+pub does_next : (K : Modelling) (first old new : PartitionView) (acts : List ScriptLine) (k : ℕ) (l : ScriptLine) (a : Act) (more : List Line) (m : Line) → IsNextAct acts k l a → m.number ≡ l.number → Does K first (take k acts) more old → Tells K old a m.said new → Does K first (take (k + 1) acts) (more ++ m ∷ []) new
+does_next K first old new acts k l a more m next n does t =
+    subst (λ ls. Does K first ls (more ++ m ∷ []) new) (sym next.taken) (does_push K first old new (take k acts) more l m a n next.line does t)

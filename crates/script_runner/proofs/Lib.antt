@@ -1,8 +1,6 @@
 pub mod Doing
 pub mod Forms
-pub mod Refusals
 pub mod Reports
 pub mod ThreadParts
 pub mod Walking
 pub mod Words
-pub mod WorkedReports

@@ -4,20 +4,20 @@ use Rattle.std.specs.Prelude.{IfOk}
 use Rattle.pk_base.specs.declared.act.Entry.{Entry}
 use Rattle.pk_model.specs.VertexBodies.{vertex_bodies}
 use Rattle.pk_model.proofs.Apartness.{one_journal_apart}
-use Rattle.pk_model.proofs.Tidy.{vertex_bodies-IsTidy}
+use Rattle.pk_model.proofs.VertexModeller.{vertex_bodies-IsModeller}
 use Rattle.script_text.specs.Form.{script_of_thread}
 use Rattle.script_text.specs.LegalReport.{LegalReport}
-use Rattle.script_runner.specs.Run.{IsLawful}
-use Rattle.script_runner.specs.Runs.{IsRunOf, report_of_one}
+use Rattle.script_runner.specs.Headline.{IsLawful}
+use Rattle.script_runner.specs.OneThread.{IsRunOf, report_of_one}
 use Rattle.script_text.specs.declared.script.Script.{Script}
 use Rattle.script_text.specs.declared.script.ScriptLine.{ScriptLine}
 use Rattle.script_text.specs.declared.report.Line.{Line}
 
-pub run_legal : (script : Script) (lines : List ScriptLine) (journal : List Entry) (said : List Line) → script ≡ script_of_thread lines → IsRunOf lines journal said → LegalReport vertex_bodies script (report_of_one journal said)
+pub run_legal : (script : Script) (lines : List ScriptLine) (journal : List Entry) (said : List Line) → script ≡ script_of_thread lines → IsRunOf vertex_bodies lines journal said → LegalReport vertex_bodies script (report_of_one journal said)
 run_legal script lines journal said is run = subst (λ (s : Script). LegalReport vertex_bodies s (report_of_one journal said)) (sym is) (record { n = refl; last = refl; journals = run.journals; transcripts = (run.transcript, tt) })
 
-pub run_lawful : (lines : List ScriptLine) (journal : List Entry) (said : List Line) → IsRunOf lines journal said → IsLawful (report_of_one journal said)
-run_lawful lines journal said run = record { journals = run.journals; apart = one_journal_apart vertex_bodies vertex_bodies-IsTidy journal run.journals.each.0.legal.replays }
+pub run_lawful : (lines : List ScriptLine) (journal : List Entry) (said : List Line) → IsRunOf vertex_bodies lines journal said → IsLawful vertex_bodies (report_of_one journal said)
+run_lawful lines journal said run = record { journals = run.journals; apart = one_journal_apart vertex_bodies vertex_bodies-IsModeller journal run.journals.each.0.legal.replays }
 
 pub if_ok_is : {R E : Type 0} (P : R → Type 0) (o : Result R E) (x : R) → IfOk o (λ r. r ≡ x) → P x → IfOk o P
 if_ok_is P (Ok r) x is h = subst P (sym is) h

@@ -1,40 +1,44 @@
 -- The one thread's lines walk over the entries of its partition's journal.
 use Rattle.std.proofs.Common.{◌≡◌, ℕ, ◌+◌, ◌<◌, ◌≤◌, ◌==◌, Bool, true, false, cond, List, [], ◌∷◌, ◌++◌, append-nil, filter, map, length, Option, None, Some, Result, refl, sym, ap, subst, ◌∙◌, arith}
-use Rattle.std.proofs.lemmas.List.{append_assoc, map-append}
+use Rattle.std.proofs.lemmas.List.{append_assoc}
 use Rattle.std.proofs.lemmas.List.Sorted.{IsPermutation-refl}
-use Rattle.std.specs.Prelude.{IsPermutation, IsSome}
+use Rattle.std.specs.Prelude.{IsPermutation, IsSome, MatchOption, Ok}
+use Rattle.std.specs.Result.{result_unwrap_or}
 use Rattle.std.proofs.lemmas.Bool.{eq-eqb}
 use Rattle.std.specs.Option.{option_map, option_map_or}
 use Rattle.std.specs.List.{AllByRecursion, cons_option, filter_map, range_with_len}
-use Rattle.pk_base.specs.declared.act.Call.TheVariants.{Mvfs}
+use Rattle.pk_base.specs.declared.tag.Tag.{Tag}
+use Rattle.pk_base.specs.declared.entity.Name.{Name}
 use Rattle.pk_base.specs.declared.act.Act.{Act}
-use Rattle.pk_base.specs.declared.act.Act.TheVariants as act
 use Rattle.pk_base.specs.declared.act.Entry.{Entry}
 use Rattle.pk_base.specs.declared.act.Entry.TheVariants.{Claimed, Did, Released}
 use Rattle.pk_base.specs.declared.act.Reply.{Reply}
 use Rattle.pk_base.specs.declared.refusal.Refusal.{Refusal}
 use Rattle.pk_model.specs.State.{PartitionState, opening, holds}
-use Rattle.pk_model.specs.Step.{step, Stepped, silent}
-use Rattle.pk_model.specs.Replay.{replay, replay_from, Told, told_from, thread_of, drawn_block, spent_number}
+use Rattle.pk_model.specs.Step.{step, Stepped, without_answer}
+use Rattle.pk_model.specs.Replay.{replay, replay_from, AnsweredEntry, answered_entries_from, thread_of, drawn_block, spent_number}
 use Rattle.pk_model.specs.VertexBodies.{vertex_bodies}
-use Rattle.pk_model.proofs.Replays.{replay_from-step, replay_from-append, told_from-step, told_of}
+use Rattle.pk_model.proofs.Replays.{replay_from-step, replay_from-append, answered_entries_from-step, told_of}
 use Rattle.pk_model.proofs.TagLists.{ByRecursion-append}
+use Rattle.pk_command.specs.Operands.{act_on, operands_of}
+use Rattle.pk_command.proofs.Operands.{act_on-own}
 use Rattle.partition.specs.Partition.{PartitionView, Appends}
 use Rattle.script_text.specs.Form.{act_line, end_line, lock_line}
 use Rattle.script_text.specs.LegalReport.{LegalJournals}
-use Rattle.script_text.specs.Plain.{plain_line}
-use Rattle.script_runner.specs.Runs.{Does, IsRunOf}
-use Rattle.script_text.specs.Walk.{Walker, Walks, OrderSays, ActSays, said_of}
+use Rattle.script_runner.specs.OneThread.{Does, IsRunOf}
+use Rattle.script_text.specs.Walk.{Walker, Walks, OrderSays, OrderTakes, ActSays, IsTurnedAway, said_of, refusal_of_order, refusal_of_operands, ◌or_else◌, onto_tags, tags_of_operands, act_with_tags}
 use Rattle.script_text.specs.declared.script.ScriptLine.{ScriptLine}
+use Rattle.script_text.specs.declared.script.Operand.TheVariants.{Digits}
+use Rattle.script_text.specs.declared.script.Order.TheVariants.{On}
 use Rattle.script_text.specs.declared.report.Line.{Line}
 use Rattle.script_text.specs.declared.report.LineSaid.{LineSaid}
 use Rattle.script_text.specs.declared.report.LineSaid.TheVariants.{Locked, Ended}
 
 -- the thread before it locks, and while it holds the partition, with these entries left
-abbrev pub before_lock : List Told → Walker
+abbrev pub before_lock : List AnsweredEntry → Walker
 before_lock left = record { held = []; names = []; left = left ∷ [] }
 
-abbrev pub holding : List Told → Walker
+abbrev pub holding : List AnsweredEntry → Walker
 holding left = record { held = 1 ∷ []; names = []; left = left ∷ [] }
 
 -- the lines are walked, and told these
@@ -48,19 +52,29 @@ Says w line said after = OrderSays vertex_bodies 1 1 w line.order said after
 -- ---- one line
 
 -- the act was done in this state, with this answer
-abbrev pub did : PartitionState → Act → Result Reply Refusal → Told
+abbrev pub did : PartitionState → Act → Result Reply Refusal → AnsweredEntry
 did s a answer = record { entry = Did 1 a; before = s; answer = Some answer }
 
-act_says : (s : PartitionState) (a : Act) (answer : Result Reply Refusal) (rest : List Told) → ActSays vertex_bodies 1 (holding (did s a answer ∷ rest)) 1 a None (said_of answer) (holding rest)
+act_says : (s : PartitionState) (a : Act) (answer : Result Reply Refusal) (rest : List AnsweredEntry) → ActSays vertex_bodies 1 (holding (did s a answer ∷ rest)) 1 a None (said_of answer) (holding rest)
 act_says s a answer rest = record { answer = answer; rest = rest; taken = (refl, (refl, refl)); tells = refl; goes_on = refl }
 
-line_says : (s : PartitionState) (k : ℕ) (a : Act) (answer : Result Reply Refusal) (rest : List Told) → Says (holding (did s a answer ∷ rest)) (act_line k a) (said_of answer) (holding rest)
-line_says s k (act.Call (Mvfs at)) answer rest = act_says s _ answer rest
-line_says s k act.Mark answer rest = act_says s _ answer rest
-line_says s k (act.Goto m) answer rest = act_says s _ answer rest
-line_says s k (act.Unmark m) answer rest = act_says s _ answer rest
-line_says s k act.Marks answer rest = act_says s _ answer rest
-line_says s k (act.Delta m) answer rest = act_says s _ answer rest
+-- digits name themselves
+digits_named : (names : List (Name × List Tag)) (i : ℕ) (tags : List Tag) → tags_of_operands names i (map Digits tags) ≡ Ok tags
+digits_named names i [] = refl
+digits_named names i (t ∷ ts) = ap (λ r. onto_tags i (Some t) r) (digits_named names (i + 1) ts)
+
+-- so an act of digits alone is itself, and is not turned away
+resolves_to_itself : (w : Walker) (a : Act) → act_with_tags w a (map Digits (operands_of a)) ≡ a
+resolves_to_itself w a = ap (λ r. act_on a (result_unwrap_or r [])) (digits_named w.names 1 (operands_of a)) ∙ act_on-own a
+
+line_says : (s : PartitionState) (k : ℕ) (a : Act) (answer : Result Reply Refusal) (rest : List AnsweredEntry) → Says (holding (did s a answer ∷ rest)) (act_line k a) (said_of answer) (holding rest)
+line_says s k a answer rest =
+    let w = holding (did s a answer ∷ rest) in
+    let operands = map Digits (operands_of a) in
+    let says = ActSays vertex_bodies 1 w 1 in
+    let none : refusal_of_order 1 w (On 1 a operands None) ≡ None = ap (λ r. refusal_of_operands r or_else None) (digits_named [] 1 (operands_of a)) in
+    subst (λ o. MatchOption o (OrderTakes vertex_bodies 1 w (On 1 a operands None) (said_of answer) (holding rest)) (λ r. IsTurnedAway w r (said_of answer) (holding rest))) (sym none)
+    (subst (λ b. says b None (said_of answer) (holding rest)) (sym (resolves_to_itself w a)) (act_says s a answer rest))
 
 -- ---- the acts
 
@@ -76,15 +90,15 @@ record Walked (old new : PartitionView) (lines : List ScriptLine) (more : List L
   journal : new.journal ≡ old.journal ++ entries
   replays : replay_from vertex_bodies old.state entries ≡ Some new.state
   quiet : AllByRecursion IsOwnQuiet entries
-  walks : (tail : List Entry) (ls : List ScriptLine) (ms : List Line) (after : Walker) → WalksTo (holding (told_from vertex_bodies new.state tail)) ls ms after → WalksTo (holding (told_from vertex_bodies old.state (entries ++ tail))) (lines ++ ls) (more ++ ms) after
+  walks : (tail : List Entry) (ls : List ScriptLine) (ms : List Line) (after : Walker) → WalksTo (holding (answered_entries_from vertex_bodies new.state tail)) ls ms after → WalksTo (holding (answered_entries_from vertex_bodies old.state (entries ++ tail))) (lines ++ ls) (more ++ ms) after
 
-does_walk : (old new : PartitionView) (lines : List ScriptLine) (more : List Line) → Does old lines more new → Walked old new lines more
+does_walk : (old new : PartitionView) (lines : List ScriptLine) (more : List Line) → Does vertex_bodies old lines more new → Walked old new lines more
 does_walk old new [] [] h = record {
   entries = [];
   journal = ap (λ (v : PartitionView). v.journal) h ∙ sym (append-nil old.journal);
   replays = ap (λ (v : PartitionView). Some v.state) (sym h);
   quiet = tt;
-  walks = λ tail ls ms after w. subst (λ (v : PartitionView). WalksTo (holding (told_from vertex_bodies v.state tail)) ls ms after) h w;
+  walks = λ tail ls ms after w. subst (λ (v : PartitionView). WalksTo (holding (answered_entries_from vertex_bodies v.state tail)) ls ms after) h w;
 }
 does_walk old new (l ∷ lines) (m ∷ more) h =
     let a = h.1.0 in
@@ -95,7 +109,7 @@ does_walk old new (l ∷ lines) (m ∷ more) h =
     let appends = tells.1.0 in
     let r : Stepped = record { state = mid.state; answer = Some answer } in
     let w = does_walk mid new lines more h.1.1.1.1.1 in
-    let line : (rest : List Told) → Says (holding (did old.state a answer ∷ rest)) l m.said (holding rest) = λ rest.
+    let line : (rest : List AnsweredEntry) → Says (holding (did old.state a answer ∷ rest)) l m.said (holding rest) = λ rest.
     subst (λ (x : ScriptLine). Says (holding (did old.state a answer ∷ rest)) x m.said (holding rest)) (sym is)
     (subst (λ said. Says (holding (did old.state a answer ∷ rest)) (act_line l.number a) said (holding rest)) (sym tells.1.1) (line_says old.state l.number a answer rest)) in
     record {
@@ -104,29 +118,29 @@ does_walk old new (l ∷ lines) (m ∷ more) h =
       replays = replay_from-step vertex_bodies old.state (Did 1 a) w.entries r appends.steps ∙ w.replays;
       quiet = (record { thread = refl; drawn = refl; spent = refl }, w.quiet);
       walks = λ tail ls ms after x.
-          subst (λ left. WalksTo (holding left) (l ∷ lines ++ ls) (m ∷ more ++ ms) after) (sym (told_from-step vertex_bodies old.state (Did 1 a) (w.entries ++ tail) r appends.steps))
-          (h.0, (holding (told_from vertex_bodies mid.state (w.entries ++ tail)), (line _, w.walks tail ls ms after x)));
+          subst (λ left. WalksTo (holding left) (l ∷ lines ++ ls) (m ∷ more ++ ms) after) (sym (answered_entries_from-step vertex_bodies old.state (Did 1 a) (w.entries ++ tail) r appends.steps))
+          (h.0, (holding (answered_entries_from vertex_bodies mid.state (w.entries ++ tail)), (line _, w.walks tail ls ms after x)));
     }
 does_walk old new [] (m ∷ more) h = elim h [ ]
 does_walk old new (l ∷ lines) [] h = elim h [ ]
 
 -- ---- the whole thread
 
-abbrev pub own : List Told → List Told
+abbrev pub own : List AnsweredEntry → List AnsweredEntry
 own xs = filter (λ x. thread_of x.entry == 1) xs
 
-own_told_by : (s : PartitionState) (e : Entry) (es : List Entry) → thread_of e ≡ 1 → ((t : PartitionState) → own (told_from vertex_bodies t es) ≡ told_from vertex_bodies t es) → (o : Option Stepped) → step vertex_bodies s e ≡ o → own (told_from vertex_bodies s (e ∷ es)) ≡ told_from vertex_bodies s (e ∷ es)
-own_told_by s e es one more None is = let none = ap (λ o. option_map_or (λ (q : Stepped). told_of s e q ∷ told_from vertex_bodies q.state es) o []) is in ap own none ∙ sym none
+own_told_by : (s : PartitionState) (e : Entry) (es : List Entry) → thread_of e ≡ 1 → ((t : PartitionState) → own (answered_entries_from vertex_bodies t es) ≡ answered_entries_from vertex_bodies t es) → (o : Option Stepped) → step vertex_bodies s e ≡ o → own (answered_entries_from vertex_bodies s (e ∷ es)) ≡ answered_entries_from vertex_bodies s (e ∷ es)
+own_told_by s e es one more None is = let none = ap (λ o. option_map_or (λ (q : Stepped). told_of s e q ∷ answered_entries_from vertex_bodies q.state es) o []) is in ap own none ∙ sym none
 own_told_by s e es one more (Some r) is =
-    let first = told_from-step vertex_bodies s e es r is in
-    let rest = told_from vertex_bodies r.state es in
+    let first = answered_entries_from-step vertex_bodies s e es r is in
+    let rest = answered_entries_from vertex_bodies r.state es in
     ap own first
     ∙ ap (λ b. cond b (told_of s e r ∷ own rest) (own rest)) (eq-eqb (thread_of e) 1 one)
     ∙ ap (λ xs. told_of s e r ∷ xs) (more r.state)
     ∙ sym first
 
 -- the entries of thread 1 are all of them
-own_told : (s : PartitionState) (es : List Entry) → AllByRecursion IsOwnQuiet es → own (told_from vertex_bodies s es) ≡ told_from vertex_bodies s es
+own_told : (s : PartitionState) (es : List Entry) → AllByRecursion IsOwnQuiet es → own (answered_entries_from vertex_bodies s es) ≡ answered_entries_from vertex_bodies s es
 own_told s [] h = refl
 own_told s (e ∷ es) h = own_told_by s e es h.0.thread (λ t. own_told t es h.1) _ refl
 
@@ -143,19 +157,19 @@ own_threads [] h = tt
 own_threads (e ∷ es) h = let one = h.0.thread in ((omega (arith, one), omega (arith, one)), own_threads es h.1)
 
 -- the thread claimed the partition, or released it, in this state
-abbrev pub claimed_at : PartitionState → Told
+abbrev pub claimed_at : PartitionState → AnsweredEntry
 claimed_at s = record { entry = Claimed 1; before = s; answer = None }
 
-abbrev pub released_at : PartitionState → Told
+abbrev pub released_at : PartitionState → AnsweredEntry
 released_at s = record { entry = Released 1; before = s; answer = None }
 
-lock_says : (s : PartitionState) (k : ℕ) (rest : List Told) → Says (before_lock (claimed_at s ∷ rest)) (lock_line k) Locked (holding rest)
-lock_says s k rest = (before_lock rest, (record { told = claimed_at s; rest = rest; next = refl; entry = refl; after = refl }, refl, refl))
+lock_says : (s : PartitionState) (k : ℕ) (rest : List AnsweredEntry) → Says (before_lock (claimed_at s ∷ rest)) (lock_line k) Locked (holding rest)
+lock_says s k rest = (before_lock rest, (record { first = claimed_at s; rest = rest; next = refl; entry = refl; after = refl }, refl, refl))
 
 end_says : (s : PartitionState) (k : ℕ) → Says (holding (released_at s ∷ [])) (end_line k) (Ended (1 ∷ [])) (before_lock [])
-end_says s k = (holding [], ((holding [], (record { told = released_at s; rest = []; next = refl; entry = refl; after = refl }, refl)), refl, refl))
+end_says s k = (holding [], ((holding [], (record { first = released_at s; rest = []; next = refl; entry = refl; after = refl }, refl)), refl, refl))
 
-free_by : (s : PartitionState) (b : Bool) (end : PartitionState) → cond b (silent (record s { holder = None })) None ≡ Some (record { state = end; answer = None }) → end.holder ≡ None
+free_by : (s : PartitionState) (b : Bool) (end : PartitionState) → cond b (without_answer (record s { holder = None })) None ≡ Some (record { state = end; answer = None }) → end.holder ≡ None
 free_by s false end h = absurd (cc)
 free_by s true end h = sym (ap (λ o. option_map_or (λ (r : Stepped). r.state.holder) o None) h)
 
@@ -194,10 +208,8 @@ ended k = record { number = k; said = Ended (1 ∷ []) }
 pub all_said : (none one some all more : List Line) (first last : Line) → none ≡ [] → one ≡ none ++ first ∷ [] → some ≡ one ++ more → all ≡ some ++ last ∷ [] → all ≡ first ∷ more ++ last ∷ []
 all_said none one some all more first last n o s a = a ∙ ap (λ ls. ls ++ last ∷ []) (s ∙ ap (λ ls. ls ++ more) (o ∙ ap (λ ls. ls ++ first ∷ []) n))
 
-pub told_lines : (first last : ℕ) (more : List Line) (parts : List ℕ) → parts ≡ 1 ∷ [] → map plain_line (locked first ∷ more ++ record { number = last; said = Ended parts } ∷ []) ≡ locked first ∷ map plain_line more ++ ended last ∷ []
-told_lines first last more parts is =
-    ap (λ ls. locked first ∷ ls) (map-append plain_line more (record { number = last; said = Ended parts } ∷ []))
-    ∙ ap (λ (p : List ℕ). locked first ∷ map plain_line more ++ record { number = last; said = Ended p } ∷ []) is
+pub told_lines : (first last : ℕ) (more : List Line) (parts : List ℕ) → parts ≡ 1 ∷ [] → locked first ∷ more ++ record { number = last; said = Ended parts } ∷ [] ≡ locked first ∷ more ++ ended last ∷ []
+told_lines first last more parts is = ap (λ (p : List ℕ). locked first ∷ more ++ record { number = last; said = Ended p } ∷ []) is
 
 -- a partition at its beginning
 abbrev pub begun : PartitionView
@@ -205,8 +217,8 @@ begun = record { number = 1; state = opening 1; journal = [] }
 
 -- The partition is claimed, its lines are done, and it is released; this is what the lines say of it.
 pub run_of : (claimed done released : PartitionView) (first last : ℕ) (acts : List ScriptLine) (more : List Line) →
-    Appends begun (Claimed 1) None claimed → Does claimed acts more done → Appends done (Released 1) None released →
-    IsRunOf (lock_line first ∷ acts ++ end_line last ∷ []) released.journal (locked first ∷ more ++ ended last ∷ [])
+    Appends vertex_bodies begun (Claimed 1) None claimed → Does vertex_bodies claimed acts more done → Appends vertex_bodies done (Released 1) None released →
+    IsRunOf vertex_bodies (lock_line first ∷ acts ++ end_line last ∷ []) released.journal (locked first ∷ more ++ ended last ∷ [])
 run_of claimed done released first last acts more c d r =
     let w = does_walk claimed done acts more d in
     let s = opening 1 in
@@ -221,13 +233,13 @@ run_of claimed done released first last acts more c d r =
     ∙ replay_from-step vertex_bodies done.state (Released 1) [] releases r.steps in
     let lines = lock_line first ∷ acts ++ end_line last ∷ [] in
     let said = locked first ∷ more ++ ended last ∷ [] in
-    let ends : WalksTo (holding (told_from vertex_bodies done.state (Released 1 ∷ []))) (end_line last ∷ []) (ended last ∷ []) (before_lock []) =
-    subst (λ left. WalksTo (holding left) (end_line last ∷ []) (ended last ∷ []) (before_lock [])) (sym (told_from-step vertex_bodies done.state (Released 1) [] releases r.steps))
+    let ends : WalksTo (holding (answered_entries_from vertex_bodies done.state (Released 1 ∷ []))) (end_line last ∷ []) (ended last ∷ []) (before_lock []) =
+    subst (λ left. WalksTo (holding left) (end_line last ∷ []) (ended last ∷ []) (before_lock [])) (sym (answered_entries_from-step vertex_bodies done.state (Released 1) [] releases r.steps))
     (refl, (before_lock [], (end_says done.state last, refl))) in
-    let walked : WalksTo (before_lock (told_from vertex_bodies s whole)) lines said (before_lock []) =
-    subst (λ left. WalksTo (before_lock left) lines said (before_lock [])) (sym (told_from-step vertex_bodies s (Claimed 1) (w.entries ++ Released 1 ∷ []) claims c.steps))
+    let walked : WalksTo (before_lock (answered_entries_from vertex_bodies s whole)) lines said (before_lock []) =
+    subst (λ left. WalksTo (before_lock left) lines said (before_lock [])) (sym (answered_entries_from-step vertex_bodies s (Claimed 1) (w.entries ++ Released 1 ∷ []) claims c.steps))
     (refl, (holding _, (lock_says s first _, w.walks (Released 1 ∷ []) (end_line last ∷ []) (ended last ∷ []) (before_lock []) ends))) in
-    subst (λ j. IsRunOf lines j said) (sym journal) (record {
+    subst (λ j. IsRunOf vertex_bodies lines j said) (sym journal) (record {
       journals = legal_run whole released.state replays (free_by done.state (holds done.state 1) released.state r.steps) quiet;
       transcript = record {
         after = before_lock [];

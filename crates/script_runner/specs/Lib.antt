@@ -1,4 +1,5 @@
 -- In reading order.
-pub mod Run
-pub mod Runs
-pub mod WorkedReports
+pub mod Statuses
+pub mod Built
+pub mod Headline
+pub mod OneThread

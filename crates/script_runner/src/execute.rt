@@ -1,19 +1,18 @@
-ghost use Rattle.std.specs.Prelude.{◌≡◌, ℕ, ◌+◌, ◌*◌, ◌<◌, ◌≤◌, [], ◌∷◌, ◌++◌, length, map, Some, IfOk, OnOk};
+ghost use Rattle.std.specs.Prelude.{◌≡◌, ℕ, ◌+◌, ◌*◌, ◌<◌, ◌≤◌, [], ◌∷◌, ◌++◌, length, true, Some, IfOk, OnOk};
 ghost use Rattle.std.specs.List.{AllByRecursion};
-ghost use Rattle.pk_base.specs.Plain.{plain_act, plain_entry};
 ghost use Rattle.pk_model.specs.VertexBodies.{vertex_bodies};
 ghost use Rattle.partition.specs.Partition.{Answers};
 ghost use Rattle.script_text.specs.Form.{end_line, lock_line, script_of_thread};
 ghost use Rattle.script_text.specs.LegalReport.{LegalReport};
-ghost use Rattle.script_text.specs.Plain.{plain_line, plain_said};
-ghost use Rattle.script_runner.specs.Run.{IsActLine, IsBuilt, IsLawful, IsOneThread};
-ghost use Rattle.script_runner.specs.Runs.{Does, HasForm, HasRoom, IsRunOf, SaysOf, Tells, report_of_one};
+ghost use Rattle.script_runner.specs.Built.{HasForm, IsActLine, IsOneThread, is_built};
+ghost use Rattle.script_runner.specs.Headline.{IsLawful};
+ghost use Rattle.script_runner.specs.OneThread.{Does, HasRoom, IsRunOf, SaysOf, Tells, report_of_one};
 
 use entity_store::Steps;
 use partition::Partition;
-use pk_base::{Act, Entry, Fault, NoMemory, Reply};
+use pk_base::{Act, Entry, Fault, Items, NoMemory, Reply};
 use script_text::{
-    EntryList, Items, Line, LineSaid, Order, PartList, Report, SaidList, Script, ScriptLine,
+    EntryList, Line, LineSaid, Order, PartList, Report, SaidList, Script, ScriptLine,
 };
 use std::alloc::Global;
 use std::marker::Brand;
@@ -22,7 +21,7 @@ use std::sync::ledger::{Blank, Ledger};
 /// Carries out a script of one thread in one partition.
 pub(crate) fn execute(alloc: Global, script: &Script) -> Result<Report, NoMemory>
     requires { HasForm script.now }
-    ensures lawful { IfOk result IsLawful }
+    ensures lawful { IfOk result (IsLawful vertex_bodies) }
     ensures legal { IfOk result (LegalReport vertex_bodies script.now) }
 {
     let (journal, said) = run_thread::<Brand>(alloc, the_thread(script), Blank::new(1))?;
@@ -40,7 +39,7 @@ fn the_thread(script: &Script) -> &[ScriptLine]
 
 /// The report of one thread and one partition.
 fn report_with(alloc: Global, journal: Vec<Entry>, said: Vec<Line>) -> Result<Report, NoMemory>
-    ensures { IfOk result (λ r. r ≡ report_of_one (map plain_entry journal.items) (map plain_line said.items)) }
+    ensures { IfOk result (λ r. r ≡ report_of_one journal.items said.items) }
 {
     let mut threads = Vec::new(alloc);
     threads.push(SaidList::of(said))?;
@@ -54,7 +53,8 @@ fn report_with(alloc: Global, journal: Vec<Entry>, said: Vec<Line>) -> Result<Re
     })
 }
 
-/// Carries out the lines of the thread, and answers the partition's journal and what was said to each line.
+/// Carries out the lines of the thread, and answers the partition's journal and what was said to
+/// each line.
 fn run_thread<L: Ledger>(
     alloc: Global,
     lines: &[ScriptLine],
@@ -64,7 +64,7 @@ fn run_thread<L: Ledger>(
     requires name { blank.name ≡ L.name }
     requires parts { blank.parts ≡ L.parts }
     requires some { 0 < blank.parts }
-    ensures { IfOk result (λ r. IsRunOf lines.now (map plain_entry r.0.items) (map plain_line r.1.items)) }
+    ensures { IfOk result (λ r. IsRunOf vertex_bodies lines.now r.0.items r.1.items) }
 {
     let mut steps = Steps::<L>::new(blank);
     let (first, acts, last) = parts_of(lines);
@@ -94,7 +94,9 @@ fn run_acts<L: Ledger>(
 ) -> Result<(Vec<Entry>, Vec<Line>), NoMemory>
     requires few { length acts.now ≤ 12 }
     requires each { AllByRecursion IsActLine acts.now }
-    ensures { IfOk result (λ r. IsRunOf (lock_line first ∷ acts.now ++ end_line last ∷ []) (map plain_entry r.0.items) (map plain_line r.1.items)) }
+    ensures { IfOk result (λ r. IsRunOf vertex_bodies
+        (lock_line first ∷ acts.now ++ end_line last ∷ [])
+        r.0.items r.1.items) }
 {
     let mut partition = Partition::begin(alloc, 1)?;
     let mut said = Vec::new(alloc);
@@ -132,7 +134,8 @@ fn do_acts<L: Ledger>(
     requires each { AllByRecursion IsActLine acts.now }
     requires held { partition.old.state.holder ≡ Some 1 }
     requires room { HasRoom partition.old.state (length acts.now) }
-    ensures does { OnOk result ((more : _) × (said.new.items ≡ said.old.items ++ more) × Does partition.old acts.now (map plain_line more) partition.new) }
+    ensures does { OnOk result ((more : _) × (said.new.items ≡ said.old.items ++ more)
+        × Does vertex_bodies partition.old acts.now more partition.new) }
     ensures held { OnOk result (partition.new.state.holder ≡ Some 1) }
 {
     for line in acts {
@@ -155,10 +158,10 @@ fn answer_to<L: Ledger>(
     act: &Act,
     steps: &mut Steps<L>,
 ) -> Result<LineSaid, NoMemory>
-    requires built { IsBuilt act.now }
+    requires built { is_built act.now ≡ true }
     requires held { partition.old.state.holder ≡ Some 1 }
     requires room { HasRoom partition.old.state 1 }
-    ensures { IfOk result (λ said. Tells partition.old (plain_act act.now) (plain_said said) partition.new) }
+    ensures { IfOk result (λ said. Tells vertex_bodies partition.old act.now said partition.new) }
 {
     said_of(do_act(alloc, partition, act, steps))
 }
@@ -170,10 +173,10 @@ fn do_act<L: Ledger>(
     act: &Act,
     steps: &mut Steps<L>,
 ) -> Result<Reply, Fault>
-    requires built { IsBuilt act.now }
+    requires built { is_built act.now ≡ true }
     requires held { partition.old.state.holder ≡ Some 1 }
     requires room { HasRoom partition.old.state 1 }
-    ensures { Answers partition.old (plain_act act.now) result partition.new }
+    ensures { Answers vertex_bodies partition.old act.now result partition.new }
 {
     match act {
         Act::Call(call) => partition.call(call.copy(alloc)?, steps),

@@ -1,12 +1,14 @@
-ghost use Rattle.std.specs.Prelude.{◌≡◌, ℕ, ◌+◌, ◌≤◌, ◌⊎◌, ◌↔◌, [], ◌∷◌, length, map, take, codes, string_bytes, IfOk, IfErr, IfSome, IsOk, IsSome, IsTrue, None, Some};
+ghost use Rattle.std.specs.Prelude.{◌≡◌, ℕ, ◌+◌, ◌≤◌, ◌⊎◌, ◌↔◌, [], ◌∷◌, length, map, take, codes, string_bytes, option_map, IfOk, IfErr, IsTrue, None, Some};
 ghost use Rattle.std.specs.List.{list_any};
+ghost use Rattle.pk_model.specs.VertexBodies.{place_of as the_place_of, vertex_bodies};
+ghost use Rattle.pk_outside.specs.Outside.{Grows, HasFailed};
 ghost use Rattle.script_text.specs.Form.{script_of};
-ghost use Rattle.pk_outside.specs.Outside.{Took, IsAtEnd, Grows, HasFailed};
 ghost use Rattle.script_text.specs.Text.{text_of};
-ghost use Rattle.script_text.specs.Reading.{Fails};
-ghost use Rattle.pk_outside.specs.declared.transfer.TheConstants.{MOST_INPUT};
-ghost use Rattle.script_runner.specs.Run.{EndsFor, HasRun, IsFinished, IsJudged, IsLawful, IsReportOf, is_refused, number_of_status, status_of, status_of_no};
+ghost use Rattle.script_runner.specs.Statuses.{is_refused, number_of_status, status_of, status_of_no};
+ghost use Rattle.script_runner.specs.Built.{HasForm, unbuilt_in};
+ghost use Rattle.script_runner.specs.Headline.{HasCause, IsLawful, IsReported, IsReportOf, JudgesAs, WasRead, WasWritten};
 
+use crate::built::unbuilt_in_threads;
 use crate::execute::execute;
 use pk_outside::{Failed, ReadNo, Sink, Source, read_all, write_all};
 use script_text::{Cause, LineSaid, Report, SaidList, ScriptNo, Text, read_script, report_text};
@@ -21,7 +23,8 @@ pub enum Status {
     SomeRefused,
     /// The words are not those of this program.
     BadWords,
-    /// The input is no script: the first line that is not as its place asks.
+    /// The input is no script: the first line that is not as its place asks. Or it is one, and this
+    /// is its first line that is not carried out yet.
     BadScript { line: u32, cause: Cause },
     /// A read failed.
     ReadFault,
@@ -51,61 +54,36 @@ impl Status {
     }
 }
 
-/// How a run ended, and its report, which it has exactly where it ended with `Done`, `SomeRefused` or `WriteFault`.
+/// How a run ended, and its report, which it has exactly where it ended with `Done`, `SomeRefused`
+/// or `WriteFault`.
 #[derive(Debug, Drop)]
 pub struct Outcome {
     pub status: Status,
     pub report: Option<Report>,
 }
 
-/// Reads a script, carries it out by one thread, and writes the report. `words` has no program name in it.
+/// Reads a script, carries it out by one thread, and writes the report. `words` has no program name
+/// in it.
 ///
-/// The words are tested first, then the input is read to its end, then it is run, and nothing is written before the whole
-/// text stands in memory. The first read or write that fails ends it. It waits for nobody, and returns where the source and
-/// the sink do.
+/// The words are tested first, then the input is read to its end, then it is run, and nothing is
+/// written before the whole text stands in memory. A script with a line that is not carried out yet
+/// ends it as one that is none does. The first read or write that fails ends it. It waits for
+/// nobody, and returns where the source and the sink do.
 pub fn run_serial<S: Source, K: Sink>(
     alloc: Global,
     words: &[String],
     source: &mut S,
     sink: &mut K,
 ) -> Outcome
-    // The headline: of every report, whatever source and sink tell; and where the source tells its bytes, it is a legal
-    // report of the script that they are, read to their end.
-    ensures report { IsSome result.report ↔ HasRun result.status }
-    ensures lawful { IfSome result.report IsLawful }
-    ensures legal { IfSome result.report (λ report. IfSome (S.left source.old) (λ bytes. IsReportOf bytes report)) }
-    ensures read { IsJudged result.status → IsAtEnd (S.left source.new) }
-    ensures within { IsJudged result.status → Took (λ n. n ≤ MOST_INPUT) (S.left source.old) (S.left source.new) }
-
-    // What is written: the whole text, or a prefix of it where a write failed, or nothing.
-    ensures whole { IfSome result.report (λ report. result.status ≡ status_of report → Grows (K.held sink.old) (K.held sink.new) (text_of report)) }
-    ensures prefix { IfSome result.report (λ report. (result.status ≡ status_of report) ⊎ ((result.status ≡ Status.WriteFault)
-        × ((n : ℕ) × (n ≤ length (text_of report)) × Grows (K.held sink.old) (K.held sink.new) (take n (text_of report))))) }
-    ensures nothing { result.report ≡ None → sink.new ≡ sink.old }
-
-    // The cause of each status.
-    ensures words { (result.status ≡ Status.BadWords) ↔ ¬ (map string_bytes words.now ≡ codes "--serial" ∷ []) }
-    ensures unread { result.status ≡ Status.BadWords → source.new ≡ source.old }
-    ensures input { IfSome (S.left source.old) (λ bytes. (result.status ≡ Status.BadWords) ⊎ ((result.status ≡ Status.NoMemory)
-        ⊎ ((result.status ≡ Status.ReadFault) ⊎ EndsFor bytes result.status))) }
-    ensures too_long { result.status ≡ Status.TooLong → Took (λ n. n ≡ MOST_INPUT + 1) (S.left source.old) (S.left source.new) }
-    ensures cut { result.status ≡ Status.ReadFault → Took (λ n. n ≤ MOST_INPUT) (S.left source.old) (S.left source.new) }
-    ensures read_fault { result.status ≡ Status.ReadFault → HasFailed (S.faults source.old) (S.faults source.new) }
-    ensures write_fault { result.status ≡ Status.WriteFault → HasFailed (K.faults sink.old) (K.faults sink.new) }
-
-    // Reading stops with the first read that fails, and writing with the first write.
-    ensures no_read_fault { ¬ (result.status ≡ Status.ReadFault) → S.faults source.new ≡ S.faults source.old }
-    ensures no_write_fault { ¬ (result.status ≡ Status.WriteFault) → K.faults sink.new ≡ K.faults sink.old }
-
-    // Where the words and the input are good and nothing fails, it writes the report, unless memory runs out.
-    ensures complete { map string_bytes words.now ≡ codes "--serial" ∷ [] → IfSome (S.left source.old) (λ bytes. length bytes ≤ MOST_INPUT → IsOk (script_of bytes)
-        → ¬ (HasFailed (S.faults source.old) (S.faults source.new)) → ¬ (HasFailed (K.faults sink.old) (K.faults sink.new)) → IsFinished result.status) }
-    ensures reads_counted { S.faults source.old ≤ S.faults source.new }
-    ensures writes_counted { K.faults sink.old ≤ K.faults sink.new }
-
-    // It reads at most 4,194,305 times, and writes at most once for each byte of the text.
-    ensures reads { S.calls source.new ≤ S.calls source.old + (MOST_INPUT + 1) }
-    ensures writes { IfSome result.report (λ report. K.calls sink.new ≤ K.calls sink.old + length (text_of report)) }
+    // What was read of the source; the report, which is the headline; what was written to the sink;
+    // and the cause of each status. `specs/Headline.antt` has the parts of each, by name.
+    ensures read { WasRead S.left S.calls S.faults source.old source.new result.status }
+    ensures report { IsReported vertex_bodies (S.left source.old) result.status result.report }
+    ensures written { WasWritten K.held K.calls K.faults sink.old sink.new result.status
+        result.report }
+    ensures cause { HasCause (map string_bytes words.now ≡ codes "--serial" ∷ [])
+        (S.left source.old) (S.faults source.old) (S.faults source.new)
+        (K.faults sink.old) (K.faults sink.new) result.status }
 {
     if !are_serial(words) {
         return without_report(Status::BadWords);
@@ -149,14 +127,21 @@ fn ended_by(no: ReadNo) -> Status
     }
 }
 
-/// The report of the script that the bytes are, and its text.
+/// The report of the script that the bytes are, and its text. Where they are none, or a line of it
+/// is not carried out yet, the line is refused.
 fn report_of(alloc: Global, bytes: &[u8]) -> Result<(Report, Text), ScriptNo>
-    ensures lawful { IfOk result (λ r. IsLawful r.0) }
-    ensures legal { IfOk result (λ r. IsReportOf bytes.now r.0) }
+    ensures lawful { IfOk result (λ r. IsLawful vertex_bodies r.0) }
+    ensures legal { IfOk result (λ r. IsReportOf vertex_bodies bytes.now r.0) }
     ensures text { IfOk result (λ r. r.1 ≡ text_of r.0) }
-    ensures no { IfErr result (λ e. Fails e (script_of bytes.now)) }
+    ensures judged { JudgesAs bytes.now result }
 {
     let script = read_script(alloc, bytes)?;
+    if let Some(line) = unbuilt_in_threads(script.threads.as_slice()) {
+        return Err(ScriptNo::Bad {
+            line,
+            cause: Cause::NotBuilt,
+        });
+    }
     let report = execute(alloc, &script)?;
     let text = report_text(alloc, &report)?;
     Ok((report, text))
@@ -166,11 +151,15 @@ fn report_of(alloc: Global, bytes: &[u8]) -> Result<(Report, Text), ScriptNo>
 fn write_report<K: Sink>(report: Report, text: &Text, sink: &mut K) -> Outcome
     requires { text.now ≡ text_of report }
     ensures report { result.report ≡ Some report }
-    ensures whole { result.status ≡ status_of report → Grows (K.held sink.old) (K.held sink.new) (text_of report) }
+    ensures whole { result.status ≡ status_of report
+        → Grows (K.held sink.old) (K.held sink.new) (text_of report) }
     ensures prefix { (result.status ≡ status_of report) ⊎ ((result.status ≡ Status.WriteFault)
-        × ((n : ℕ) × (n ≤ length (text_of report)) × Grows (K.held sink.old) (K.held sink.new) (take n (text_of report)))) }
-    ensures fault { result.status ≡ Status.WriteFault → HasFailed (K.faults sink.old) (K.faults sink.new) }
-    ensures no_fault { ¬ (result.status ≡ Status.WriteFault) → K.faults sink.new ≡ K.faults sink.old }
+        × ((n : ℕ) × (n ≤ length (text_of report))
+        × Grows (K.held sink.old) (K.held sink.new) (take n (text_of report)))) }
+    ensures fault { result.status ≡ Status.WriteFault
+        → HasFailed (K.faults sink.old) (K.faults sink.new) }
+    ensures no_fault { ¬ (result.status ≡ Status.WriteFault)
+        → K.faults sink.new ≡ K.faults sink.old }
     ensures counted { K.faults sink.old ≤ K.faults sink.new }
     ensures calls { K.calls sink.new ≤ K.calls sink.old + length (text_of report) }
 {

@@ -1,7 +1,8 @@
 pub mod Acts
+pub mod Grouping
 pub mod Head
 pub mod Numbers
+pub mod Operands
 pub mod Pieces
-pub mod PlainLines
-pub mod PlainText
 pub mod TagRuns
+pub mod Words

@@ -2,7 +2,7 @@
 use Rattle.std.proofs.Common.{◌≡◌, ℕ, ◌+◌, ◌-◌, ◌*◌, ◌≤◌, nat_lt, ◌&&◌, Bool, true, false, if◌then◌else◌, List, [], ◌∷◌, length, eqb, Option, None, Some, option_and_then, refl, ap, arith}
 use Rattle.std.proofs.lemmas.Bool.{ltb-false, le-ltb}
 use Rattle.std.specs.List.{list_all}
-use Rattle.script_text.specs.Form.{is_digit, digits_of, digits_value, below}
+use Rattle.script_text.specs.Numbers.{is_digit, digits_of, digits_value, below}
 
 -- the number below a limit that the digits spell after some that spell `front`
 abbrev pub digits_from : ℕ → ℕ → List ℕ → Option ℕ

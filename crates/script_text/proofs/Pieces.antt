@@ -1,7 +1,7 @@
 -- A list cut at its separators.
 use Rattle.std.proofs.Common.{◌≡◌, ℕ, zero, suc, ◌<◌, ◌≢◌, cond, List, [], ◌∷◌, length, take, drop, get_or, refl, ap, ◌∙◌, arith}
 use Rattle.std.proofs.lemmas.Bool.{eq-eqb, ne_eqb}
-use Rattle.script_text.specs.Form.{Pieces, onto_first, pieces_of}
+use Rattle.script_text.specs.Pieces.{Pieces, onto_first, pieces_of}
 
 -- one piece more
 abbrev pub piece_onto : List ℕ → Pieces → Pieces

@@ -1,8 +1,9 @@
 -- In reading order.
-pub mod Plain
+pub mod Pieces
+pub mod Numbers
+pub mod FieldWords
 pub mod Form
 pub mod Walk
 pub mod LegalReport
 pub mod Text
 pub mod Reading
-pub mod WorkedOrders

@@ -1,9 +1,7 @@
-//! Scripts and reports as data and as text: a script is read from bytes, and a report is printed. `specs/` says besides
-//! when a report is a legal one of a script.
+//! Scripts and reports as data and as text: a script is read from bytes, and a report is printed.
+//! `specs/` says besides when a report is a legal one of a script.
 #![tactic(auto)]
 
-pub use items::Items;
-pub use laws::what_is_turned_away;
 pub use printing::{Text, report_text};
 pub use reading::{ScriptNo, read_script};
 pub use report::{
@@ -13,8 +11,6 @@ pub use script::{
     Cause, LineList, Operand, OperandList, Order, Script, ScriptLine, ThreadList, TurnList,
 };
 
-mod items;
-mod laws;
 mod printing;
 mod reading;
 mod report;

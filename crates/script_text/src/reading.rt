@@ -1,9 +1,16 @@
-ghost use Rattle.std.specs.Prelude.{◌≡◌, ℕ, ◌+◌, ◌≤◌, ◌∷◌, [], ◌++◌, Result, Ok, Err, IfOk, option_map, ok_or};
-ghost use Rattle.script_text.specs.Form.{script_of, lines_of, ends_at, act_of, acts_from, script_of_thread};
-ghost use Rattle.script_text.specs.Form.{act_line as line_of_act, operands_of};
+//! The reading of a script.
+ghost use Rattle.std.specs.Prelude.{◌≡◌, ℕ, ◌≤◌, Ok, Err, IfOk, map, option_map, ok_or};
+ghost use Rattle.std.specs.Option.{option_and_then};
+ghost use Rattle.std.specs.List.{filter_map};
+ghost use Rattle.pk_command.specs.Fields.{the_tag};
+ghost use Rattle.pk_command.specs.Operands.{operands_of};
+ghost use Rattle.script_text.specs.Pieces.{lines_of};
+ghost use Rattle.script_text.specs.Form.{script_of, ends_at, act_of_line as act_by, acts_from, script_of_thread};
+ghost use Rattle.script_text.specs.Form.{act_line as line_of_act, bad as bad_line};
 ghost use Rattle.script_text.specs.Reading.{behind, line_at, Reads};
 ghost use Rattle.script_text.specs.declared.script.Cause.{Cause};
 ghost use Rattle.script_text.specs.declared.script.Cause.TheVariants.{NotBuilt};
+ghost use Rattle.script_text.specs.declared.script.Operand.TheVariants.{Digits};
 ghost use Rattle.script_text.specs.declared.reading.ScriptNo.TheVariants.{Bad, NoMemory as OutOfMemory};
 
 use crate::{
@@ -12,10 +19,12 @@ use crate::{
 use acts::act_of_line;
 use pieces::{after_line, next_line};
 use pk_base::{Act, NoMemory};
+use pk_command::{Field, fields_of};
 use std::alloc::{AllocError, AllocFailed, Global};
 use thiserror::Error;
 
 mod acts;
+mod fields;
 mod numbers;
 mod pieces;
 #[cfg(test)]
@@ -24,7 +33,8 @@ mod tests;
 /// Why bytes gave no script.
 #[derive(Clone, Copy, Debug, PartialEq, Eq, Error)]
 pub enum ScriptNo {
-    /// The line, from 1, is the first that is not of the form. Where the input ends too early, it is the one that is missing.
+    /// The line, from 1, is the first that is not of the form. Where the input ends too early, it
+    /// is the one that is missing.
     #[error("line {line}: {cause}")]
     Bad { line: u32, cause: Cause },
     /// Memory ran out.
@@ -74,30 +84,46 @@ fn bad(line: u32) -> ScriptNo
 
 /// The bytes after a line of this number, which is to be this text.
 fn expect_line<'a>(bytes: &'a [u8], number: u32, text: &[u8]) -> Result<&'a [u8], ScriptNo>
-    ensures { Reads (λ rest. lines_of rest.now) result (line_at number text.now (lines_of bytes.now)) }
+    ensures { Reads (λ rest. lines_of rest.now) result
+        (line_at number text.now (lines_of bytes.now)) }
 {
     after_line(bytes, text).ok_or(bad(number))
 }
 
 /// The tag operands of an act.
-fn operands(alloc: Global, act: &Act) -> Result<OperandList, AllocError>
-    ensures { IfOk result (λ operands. operands ≡ operands_of act.now) }
+#[tactic(auto, using(crate::proofs::Operands::operands_are_tags))]
+fn operands(alloc: Global, act: &Act) -> Result<OperandList, NoMemory>
+    ensures { IfOk result (λ operands. operands ≡ map Digits (operands_of act.now)) }
 {
-    let mut operands = Vec::new(alloc);
-    match act {
-        Act::Goto(mark) | Act::Unmark(mark) | Act::Delta(mark) => {
-            operands.push(Operand::Digits(*mark))?;
-        }
-        Act::Call(_) | Act::Mark | Act::Marks => {}
-    }
-    Ok(OperandList::of(operands))
+    let fields = fields_of(alloc, act)?;
+    Ok(OperandList::of(operands_in(alloc, &fields)?))
+}
+
+/// The operands among the fields.
+fn operands_in(alloc: Global, fields: &[Option<Field>]) -> Result<Vec<Operand>, AllocError>
+    ensures { IfOk result (λ operands. operands.items
+        ≡ filter_map (λ o. option_map Digits (option_and_then the_tag o)) fields.now) }
+{
+    fields
+        .iter()
+        .filter_map(|field| operand(field))
+        .collect(alloc)
+}
+
+/// The operand that a field is, where it is a tag.
+fn operand(field: &Option<Field>) -> Option<Operand>
+    ensures { result ≡ option_map Digits (option_and_then the_tag field.now) }
+{
+    let tag = field.as_ref()?.tag()?;
+    Some(Operand::Digits(tag))
 }
 
 /// The line of this number, which is to be an act on partition 1.
 fn act_line(alloc: Global, number: u32, line: &[u8]) -> Result<ScriptLine, ScriptNo>
-    ensures { Reads (λ line. line) result (ok_or (option_map (line_of_act number) (act_of line.now)) number) }
+    ensures { Reads (λ line. line) result
+        (ok_or (option_map (line_of_act number) (act_by line.now)) (bad_line number)) }
 {
-    let act = act_of_line(line).ok_or(bad(number))?;
+    let act = act_of_line(alloc, line)?.ok_or(bad(number))?;
     let operands = operands(alloc, &act)?;
     Ok(ScriptLine {
         number,
@@ -111,7 +137,11 @@ fn act_line(alloc: Global, number: u32, line: &[u8]) -> Result<ScriptLine, Scrip
 }
 
 /// Adds the line `end` of this number, after which no byte is to follow.
-fn ended(mut lines: Vec<ScriptLine>, number: u32, after: &[u8]) -> Result<Vec<ScriptLine>, ScriptNo>
+fn with_end(
+    mut lines: Vec<ScriptLine>,
+    number: u32,
+    after: &[u8],
+) -> Result<Vec<ScriptLine>, ScriptNo>
     requires { number ≤ LAST_LINE }
     ensures { Reads (λ all. all.items) result
         (behind lines.items (ends_at number (lines_of after.now).ended (lines_of after.now).rest)) }
@@ -139,7 +169,7 @@ fn read_acts(
     let mut rest = bytes;
     while let Some((line, after)) = next_line(rest) {
         if line == b"end".as_slice() {
-            return ended(lines, number, after);
+            return with_end(lines, number, after);
         }
         if number == LAST_LINE {
             return Err(bad(number));
@@ -180,12 +210,13 @@ fn one_thread(alloc: Global, lines: Vec<ScriptLine>) -> Result<Script, AllocErro
     })
 }
 
-/// The script that the bytes are: `session 1 1`, `thread`, `lock 1`, up to twelve acts, and `end`, each on a line that ends
-/// with byte 10, and nothing after them. Any other bytes are refused with the first line that is not as its place asks, and
-/// `NoMemory` comes only where memory ran out.
+/// The script that the bytes are: `session 1 1`, `thread`, `lock 1`, up to twelve acts, and `end`,
+/// each on a line that ends with byte 10, and nothing after them. Any other bytes are refused with
+/// the first line that is not as its place asks, and `NoMemory` comes only where memory ran out.
 pub fn read_script(alloc: Global, bytes: &[u8]) -> Result<Script, ScriptNo>
     ensures script { IfOk result (λ script. script_of bytes.now ≡ Ok script) }
-    ensures bad { (line : ℕ) (cause : Cause) → result ≡ Err (Bad line cause) → (script_of bytes.now ≡ Err line) × (cause ≡ NotBuilt) }
+    ensures bad { (line : ℕ) (cause : Cause) → result ≡ Err (Bad line cause)
+        → script_of bytes.now ≡ Err (record { line = line; cause = cause }) }
 {
     let lines = thread_lines(alloc, bytes)?;
     Ok(one_thread(alloc, lines)?)

@@ -1,9 +1,4 @@
-ghost use Rattle.std.specs.Prelude.{◌≡◌, map};
-ghost use Rattle.script_text.specs.Plain.{plain_script_line};
-
-use crate::Items;
-use pk_base::{Act, Name, Tag};
-use std::marker::Model;
+use pk_base::{Act, Items, Name, Tag};
 use thiserror::Error;
 
 /// Why bytes are no script.
@@ -14,7 +9,8 @@ pub enum Cause {
     NotBuilt,
 }
 
-/// A script: partitions 1 to `n`, tag blocks 1 to `last`, the schedule's turns, and the lines of each thread.
+/// A script: partitions 1 to `n`, tag blocks 1 to `last`, the schedule's turns, and the lines of
+/// each thread.
 #[derive(Debug, Drop)]
 pub struct Script {
     pub n: u32,
@@ -29,37 +25,8 @@ pub type TurnList = Items<u32>;
 /// The lines of each thread.
 pub type ThreadList = Items<LineList>;
 
-/// The lines of one thread, which contracts see with no spare room in the lists of their acts.
-#[derive(Debug, Drop)]
-pub struct LineList {
-    lines: Vec<ScriptLine>,
-}
-
-impl Model for LineList {
-    ghost use Rattle.std.specs.Prelude.{List, map};
-    ghost use Rattle.script_text.specs.declared.script.ScriptLine.{ScriptLine};
-
-    ghost Value = { List ScriptLine };
-
-    ghost use Rattle.script_text.specs.Plain.{plain_script_line};
-
-    ghost view = { λ l. map plain_script_line l.lines.items };
-}
-
-impl LineList {
-    pub(crate) fn of(lines: Vec<ScriptLine>) -> LineList
-        ensures { result ≡ map plain_script_line lines.items }
-    {
-        LineList { lines }
-    }
-
-    /// The lines, in order.
-    pub fn as_slice(&self) -> &[ScriptLine]
-        ensures { map plain_script_line result.now ≡ self.now }
-    {
-        self.lines.as_slice()
-    }
-}
+/// The lines of one thread, in order.
+pub type LineList = Items<ScriptLine>;
 
 /// A line of a thread, and its number in the input, from 1.
 #[derive(Debug, Drop)]
@@ -77,8 +44,9 @@ pub enum Order {
     Unlock(u32),
     /// The thread releases all partitions that it holds, and is done.
     End,
-    /// The act is done in this partition. `operands` are its tag operands from left to right; the act has `Tag(0)` in the
-    /// place of a named one. `bind` is the name that an answer with a list is bound to.
+    /// The act is done in this partition. `operands` are its tag operands from left to right; the
+    /// act has `Tag(0)` in the place of a named one. `bind` is the name that an answer with a list
+    /// is bound to.
     On {
         partition: u32,
         act: Act,

@@ -1,29 +1,74 @@
 //! Carries out the script that standard input holds, and writes its report to standard output.
 #![tactic(auto)]
 
-ghost use Rattle.std.specs.Prelude.{◌≡◌, ◌⊎◌, IfErr};
+ghost use Rattle.std.specs.Prelude.{◌≡◌, map, string_bytes, IsErr, IfErr, IfOk};
 ghost use Rattle.std.specs.Process.{exit_status};
-ghost use Rattle.script_runner.specs.Run.{number_of_status};
+ghost use Rattle.script_runner.specs.Statuses.{number_of_status};
+ghost use Rattle.script_runner.specs.declared.run.Outcome.{Outcome};
+ghost use Rattle.session_script.specs.Ending.{EndsWith, IsRun};
 
-use pk_outside::{StdinSource, StdoutSink};
+use crate::line::line_of;
+use crate::words::words_of;
+use pk_outside::{Sink, Source, StdinSource, StdoutSink};
 use script_runner::{Status, run_serial};
-use std::alloc::Global;
 use std::env::{self, Env};
-use std::io::{self, ErrorKind};
+use std::io;
 use std::process::ExitCode;
 
+mod line;
+mod words;
+
 fn main(rt: HostRuntime) -> ExitCode {
-    let status = match words(&rt) {
-        Ok(words) => {
-            let mut source = StdinSource::new(rt.stdin());
-            let mut sink = StdoutSink::new(rt.stdout());
-            run_serial(rt.alloc(), words.as_slice(), &mut source, &mut sink).status
-        }
+    let mut source = StdinSource::new(rt.stdin());
+    let mut sink = StdoutSink::new(rt.stdout());
+    program(&rt, &mut source, &mut sink)
+}
+
+/// All that the program does: it runs the words that it was started with.
+fn program<R: Env + Eprint + AllocGlobal, S: Source, K: Sink>(
+    rt: &R,
+    source: &mut S,
+    sink: &mut K,
+) -> ExitCode
+    ensures ended { EndsWith S.left S.calls S.faults K.held K.calls K.faults
+        source.old source.new sink.old sink.new (exit_status result) }
+{
+    let words = words_of(rt.alloc(), env::args(rt));
+    run(rt, words, source, sink)
+}
+
+/// Runs these words, says on standard error why there is no whole report, and ends with the number
+/// of the run's status. Where the words could not be had, it ends with the number of the status
+/// that says so, and reads and writes nothing.
+fn run<R: Eprint + AllocGlobal, S: Source, K: Sink>(
+    rt: &R,
+    words: Result<Vec<String>, Status>,
+    source: &mut S,
+    sink: &mut K,
+) -> ExitCode
+    ensures run { IfOk words (λ words. (outcome : Outcome)
+        × (exit_status result ≡ number_of_status outcome.status)
+        × IsRun S.left S.calls S.faults K.held K.calls K.faults
+        (map string_bytes words.items) source.old source.new sink.old sink.new outcome) }
+    ensures wordless { IfErr words (λ status. exit_status result ≡ number_of_status status) }
+    ensures unread { IsErr words → source.new ≡ source.old }
+    ensures unwritten { IsErr words → sink.new ≡ sink.old }
+{
+    let status = match words {
+        Ok(words) => run_serial(rt.alloc(), words.as_slice(), source, sink).status,
         Err(status) => status,
     };
     // There is nowhere left to say that standard error takes nothing.
-    let _ = tell(&rt, status);
+    let _ = tell(rt, status);
     exit_code(status)
+}
+
+/// Writes the line of a status to standard error, where it has one.
+fn tell<R: Eprint>(rt: &R, status: Status) -> io::Result<()> {
+    match line_of(status) {
+        Some(line) => eprintln!(rt; "{line}"),
+        None => Ok(()),
+    }
 }
 
 /// The process ends with the number of the status.
@@ -33,30 +78,5 @@ fn exit_code(status: Status) -> ExitCode
     ExitCode::from(status.number())
 }
 
-/// The words after the program's name. A word that is not UTF-8 is none of this program's.
-fn words<R: Env + Alloc<A = Global>>(rt: &R) -> Result<Vec<String>, Status>
-    ensures { IfErr result (λ status. (status ≡ Status.BadWords) ⊎ (status ≡ Status.NoMemory)) }
-{
-    let mut words = Vec::new(rt.alloc());
-    let all = env::args(rt).map_err(|error| match error.kind() {
-        ErrorKind::OutOfMemory => Status::NoMemory,
-        _ => Status::BadWords,
-    })?;
-    for word in all.skip(1) {
-        words.push(word).map_err(|_| Status::NoMemory)?;
-    }
-    Ok(words)
-}
-
-/// Says why there is no whole report, in one line.
-fn tell<R: Eprint>(rt: &R, status: Status) -> io::Result<()> {
-    match status {
-        Status::Done | Status::SomeRefused => Ok(()),
-        Status::BadWords => eprintln!(rt; "bad words"),
-        Status::BadScript { line, cause } => eprintln!(rt; "bad script: line {line}: {cause}"),
-        Status::ReadFault => eprintln!(rt; "read fault"),
-        Status::WriteFault => eprintln!(rt; "write fault"),
-        Status::NoMemory => eprintln!(rt; "no memory"),
-        Status::TooLong => eprintln!(rt; "too long"),
-    }
-}
+#[cfg(test)]
+mod tests;

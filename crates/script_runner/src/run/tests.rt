@@ -123,6 +123,63 @@ fn a_bad_script_writes_nothing(rt: HostRuntime) -> Result<(), Fail> {
 }
 
 #[test]
+fn a_line_that_is_not_carried_out_yet_writes_nothing(rt: HostRuntime) -> Result<(), Fail> {
+    let fourth = Status::BadScript {
+        line: 4,
+        cause: NOT_BUILT,
+    };
+    let fifth = Status::BadScript {
+        line: 5,
+        cause: NOT_BUILT,
+    };
+    for (script, status) in [
+        (
+            "1 block 0 0 0 2 3 4
+1 mark
+end
+",
+            fourth,
+        ),
+        (
+            "1 mark
+1 unmark 65
+end
+",
+            fifth,
+        ),
+        (
+            "1 mvfs 0 0 0
+1 set 65 colour 7
+end
+",
+            fifth,
+        ),
+        (
+            "1 marks
+1 delta 64
+end
+",
+            fourth,
+        ),
+        (
+            "1 bodies
+no command
+end
+",
+            fifth,
+        ),
+    ] {
+        let script = format!(in rt.alloc(); "session 1 1\nthread\nlock 1\n{script}")?;
+        assert_eq!(rt;
+            status_of(&rt, rt.alloc(), script.as_bytes(), b"")?,
+            status,
+            "{script}"
+        );
+    }
+    Ok(())
+}
+
+#[test]
 fn other_words_read_and_write_nothing(rt: HostRuntime) -> Result<(), Fail> {
     let alloc = rt.alloc();
     let none: &[&str] = &[];

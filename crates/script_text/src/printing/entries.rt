@@ -1,14 +1,16 @@
 //! What a journal says.
 ghost use Rattle.std.specs.Prelude.{◌≡◌, ◌++◌, OnOk};
-ghost use Rattle.script_text.specs.Text.{call_fields, act_fields, entry_text};
+ghost use Rattle.std.specs.List.{filter_map, flat_map};
+ghost use Rattle.script_text.specs.Text.{act_text, entry_text, field_text};
 
 use super::Text;
-use super::fields::write_triple;
-use pk_base::{Act, Call, Entry};
-use std::alloc::AllocError;
+use super::fields::write_field;
+use pk_base::{Act, Entry, NoMemory};
+use pk_command::{Field, fields_of, verb_of};
+use std::alloc::Global;
 
 /// A line of a journal, without its end.
-pub(super) fn write_entry(out: &mut Text, entry: &Entry) -> Result<(), AllocError>
+pub(super) fn write_entry(alloc: Global, out: &mut Text, entry: &Entry) -> Result<(), NoMemory>
     ensures { OnOk result (out.new ≡ out.old ++ entry_text entry.now) }
 {
     match entry {
@@ -23,12 +25,12 @@ pub(super) fn write_entry(out: &mut Text, entry: &Entry) -> Result<(), AllocErro
         Entry::Did { thread, act } => {
             let thread = *thread;
             write!(out, "did {thread}")?;
-            write_act(out, act)
+            write_act(alloc, out, act)
         }
         Entry::Spent { thread, next, act } => {
             let (thread, next) = (*thread, *next);
             write!(out, "spent {thread} {next}")?;
-            write_act(out, act)
+            write_act(alloc, out, act)
         }
         Entry::Released(thread) => {
             let thread = *thread;
@@ -37,35 +39,25 @@ pub(super) fn write_entry(out: &mut Text, entry: &Entry) -> Result<(), AllocErro
     }
 }
 
-fn write_act(out: &mut Text, act: &Act) -> Result<(), AllocError>
-    ensures { OnOk result (out.new ≡ out.old ++ act_fields act.now) }
+/// An act as its command.
+fn write_act(alloc: Global, out: &mut Text, act: &Act) -> Result<(), NoMemory>
+    ensures { OnOk result (out.new ≡ out.old ++ act_text act.now) }
 {
-    match act {
-        Act::Call(call) => write_call(out, call),
-        Act::Mark => write!(out, " mark"),
-        Act::Goto(mark) => {
-            let mark = *mark;
-            write!(out, " goto {mark}")
-        }
-        Act::Unmark(mark) => {
-            let mark = *mark;
-            write!(out, " unmark {mark}")
-        }
-        Act::Marks => write!(out, " marks"),
-        Act::Delta(mark) => {
-            let mark = *mark;
-            write!(out, " delta {mark}")
-        }
-    }
+    let word = verb_of(act).word();
+    let fields = fields_of(alloc, act)?;
+    write!(out, " {word}")?;
+    write_fields(out, &fields)
 }
 
-fn write_call(out: &mut Text, call: &Call) -> Result<(), AllocError>
-    ensures { OnOk result (out.new ≡ out.old ++ call_fields call.now) }
+/// The fields that there are, in order.
+fn write_fields(out: &mut Text, fields: &[Option<Field>]) -> Result<(), NoMemory>
+    ensures { OnOk result (out.new
+        ≡ out.old ++ flat_map field_text (filter_map (λ o. o) fields.now)) }
 {
-    match call {
-        Call::Mvfs { at } => {
-            write!(out, " mvfs")?;
-            write_triple(out, *at)
+    for field in fields {
+        if let Some(field) = field {
+            write_field(out, field)?;
         }
     }
+    Ok(())
 }

@@ -9,11 +9,10 @@ use super::fields::{
     write_signed, write_tag, write_tags,
 };
 use crate::LineSaid;
-use pk_base::{Counted, Entity, MarkRow, Point, Refusal, Reply, Tag};
-use std::alloc::AllocError;
+use pk_base::{Counted, Entity, MarkRow, NoMemory, Point, Refusal, Reply, Tag};
 
 /// The answer to a line.
-pub(super) fn write_said(out: &mut Text, said: &LineSaid) -> Result<(), AllocError>
+pub(super) fn write_said(out: &mut Text, said: &LineSaid) -> Result<(), NoMemory>
     ensures { OnOk result (out.new ≡ out.old ++ said_text said.now) }
 {
     match said {
@@ -31,7 +30,7 @@ pub(super) fn write_said(out: &mut Text, said: &LineSaid) -> Result<(), AllocErr
     }
 }
 
-fn write_reply(out: &mut Text, reply: &Reply) -> Result<(), AllocError>
+fn write_reply(out: &mut Text, reply: &Reply) -> Result<(), NoMemory>
     ensures { OnOk result (out.new ≡ out.old ++ reply_text reply.now) }
 {
     match reply {
@@ -74,7 +73,7 @@ fn write_reply(out: &mut Text, reply: &Reply) -> Result<(), AllocError>
     }
 }
 
-fn write_rows(out: &mut Text, rows: &[MarkRow]) -> Result<(), AllocError>
+fn write_rows(out: &mut Text, rows: &[MarkRow]) -> Result<(), NoMemory>
     ensures { OnOk result (out.new ≡ out.old ++ flat_map row_field rows.now) }
 {
     for row in rows {
@@ -83,7 +82,7 @@ fn write_rows(out: &mut Text, rows: &[MarkRow]) -> Result<(), AllocError>
     Ok(())
 }
 
-fn write_entity(out: &mut Text, entity: Entity) -> Result<(), AllocError>
+fn write_entity(out: &mut Text, entity: Entity) -> Result<(), NoMemory>
     ensures { OnOk result (out.new ≡ out.old ++ entity_fields entity) }
 {
     match entity {
@@ -117,33 +116,34 @@ fn write_entity(out: &mut Text, entity: Entity) -> Result<(), AllocError>
     }
 }
 
-fn write_shell(out: &mut Text, body: Tag, q: i32) -> Result<(), AllocError>
+fn write_shell(out: &mut Text, body: Tag, q: i32) -> Result<(), NoMemory>
     ensures { OnOk result (out.new ≡ out.old ++ entity_fields (Entity.Shell body q)) }
 {
     write!(out, " shell body {body} q {q}")
 }
 
-fn write_vertex(out: &mut Text, body: Tag, point: Point) -> Result<(), AllocError>
+fn write_vertex(out: &mut Text, body: Tag, point: Point) -> Result<(), NoMemory>
     ensures { OnOk result (out.new ≡ out.old ++ entity_fields (Entity.Vertex body point)) }
 {
     write!(out, " vertex body {body} at")?;
     write_point(out, point)
 }
 
-fn write_point(out: &mut Text, point: Point) -> Result<(), AllocError>
-    ensures { OnOk result (out.new ≡ out.old ++ (signed point.x ++ signed point.y ++ signed point.z)) }
+fn write_point(out: &mut Text, point: Point) -> Result<(), NoMemory>
+    ensures { OnOk result (out.new
+        ≡ out.old ++ (signed point.x ++ signed point.y ++ signed point.z)) }
 {
     let Point { x, y, z } = point;
     write!(out, " {x} {y} {z}")
 }
 
-fn write_pair(out: &mut Text, word: &str, a: Tag, b: Tag) -> Result<(), AllocError>
+fn write_pair(out: &mut Text, word: &str, a: Tag, b: Tag) -> Result<(), NoMemory>
     ensures { OnOk result (out.new ≡ out.old ++ (word.now ++ tag_field a ++ tag_field b)) }
 {
     write!(out, "{word} {a} {b}")
 }
 
-fn write_refusal(out: &mut Text, refusal: Refusal) -> Result<(), AllocError>
+fn write_refusal(out: &mut Text, refusal: Refusal) -> Result<(), NoMemory>
     ensures { OnOk result (out.new ≡ out.old ++ refusal_fields refusal) }
 {
     match refusal {

@@ -1,23 +1,18 @@
-ghost use Rattle.std.specs.Prelude.{◌≡◌, ◌≤◌, length};
-
 use super::entries::write_entry;
 use super::fields::write_tags;
 use super::said::write_said;
 use super::{Text, report_text};
-use crate::{EntryList, Items, Line, LineSaid, Report, SaidList};
+use crate::{EntryList, Line, LineSaid, Report, SaidList};
 use pk_base::{
-    Act, Call, Class, Counted, Entity, Entry, Lists, MarkList, MarkRow, Name, NoMemory, Point,
-    Refusal, Reply, Tag, TagList, Triple,
+    Act, Axis, Call, Class, CornerList, Counted, Entity, Entry, Items, Lists, MarkListBuilder,
+    MarkRow, Name, NoMemory, Pair, Point, Refusal, Reply, Tag, TagList, Triple,
 };
-use std::alloc::{AllocError, Global};
+use std::alloc::Global;
 use std::test::Fail;
 
 fn tag_list(alloc: Global, numbers: &[u32]) -> Result<TagList, NoMemory> {
-    let mut tags = TagList::with_room(alloc, numbers.len())?;
-    for number in numbers {
-        tags.push(Tag(*number));
-    }
-    Ok(tags)
+    let tags = numbers.iter().map(|n| Tag(*n)).collect(alloc)?;
+    Ok(TagList::of(tags))
 }
 
 fn tags_text(alloc: Global, numbers: &[u32]) -> Result<Text, NoMemory> {
@@ -45,7 +40,7 @@ fn said_text(alloc: Global, said: LineSaid) -> Result<Text, NoMemory> {
 
 fn entry_text(alloc: Global, entry: Entry) -> Result<Text, NoMemory> {
     let mut out = Text::new(alloc);
-    write_entry(&mut out, &entry)?;
+    write_entry(alloc, &mut out, &entry)?;
     Ok(out)
 }
 
@@ -83,22 +78,6 @@ fn blocks_side_by_side_are_one_run(rt: HostRuntime) -> Result<(), Fail> {
 }
 
 #[test]
-fn coordinates_have_signs(rt: HostRuntime) -> Result<(), Fail> {
-    let at = Triple {
-        x: -5,
-        y: 0,
-        z: 1_048_576,
-    };
-    let entry = Entry::Did {
-        thread: 1,
-        act: Act::Call(Call::Mvfs { at }),
-    };
-    let text = entry_text(rt.alloc(), entry)?;
-    assert_eq!(rt; text.as_slice(), b"did 1 mvfs -5 0 1048576".as_slice());
-    Ok(())
-}
-
-#[test]
 fn a_report_is_its_lines(rt: HostRuntime) -> Result<(), Fail> {
     let alloc = rt.alloc();
     let made = tag_list(alloc, &[65, 66, 67, 68, 69])?;
@@ -132,7 +111,7 @@ fn answers_have_their_forms(rt: HostRuntime) -> Result<(), Fail> {
         gone: tag_list(alloc, &[])?,
         changed: tag_list(alloc, &[70, 71, 72])?,
     };
-    let mut rows = MarkList::with_room(alloc, 2)?;
+    let mut rows = MarkListBuilder::with_room(alloc, 2)?;
     rows.push(MarkRow {
         tag: Tag(64),
         parent: None,
@@ -157,7 +136,13 @@ fn answers_have_their_forms(rt: HostRuntime) -> Result<(), Fail> {
     let lines = vec![in alloc;
         line(3, LineSaid::Answer(Reply::Went(lists))),
         line(4, LineSaid::Refused(Refusal::NotOurs(Tag(128)))),
-        line(5, LineSaid::Answer(Reply::Marks { at: Tag(82), rows })),
+        line(
+            5,
+            LineSaid::Answer(Reply::Marks {
+                at: Tag(82),
+                rows: rows.finish()
+            })
+        ),
         line(6, LineSaid::Answer(Reply::Is(fin))),
         line(7, LineSaid::Answer(Reply::Is(attr))),
     ]?;
@@ -328,10 +313,6 @@ fn a_delta_has_its_text(rt: HostRuntime) -> Result<(), Fail> {
     Ok(())
 }
 
-fn did(act: Act) -> Entry {
-    Entry::Did { thread: 2, act }
-}
-
 #[test]
 fn entries_have_their_texts(rt: HostRuntime) -> Result<(), Fail> {
     let alloc = rt.alloc();
@@ -354,15 +335,131 @@ fn entries_have_their_texts(rt: HostRuntime) -> Result<(), Fail> {
         entry_text(alloc, spent)?.as_slice(),
         b"spent 2 65535 mark".as_slice()
     );
-    let goto = entry_text(alloc, did(Act::Goto(Tag(70))))?;
-    assert_eq!(rt; goto.as_slice(), b"did 2 goto 70".as_slice());
-    let unmark = entry_text(alloc, did(Act::Unmark(Tag(70))))?;
-    assert_eq!(rt; unmark.as_slice(), b"did 2 unmark 70".as_slice());
-    let marks = entry_text(alloc, did(Act::Marks))?;
-    assert_eq!(rt; marks.as_slice(), b"did 2 marks".as_slice());
-    let delta = entry_text(alloc, did(Act::Delta(Tag(70))))?;
-    assert_eq!(rt; delta.as_slice(), b"did 2 delta 70".as_slice());
     let released = entry_text(alloc, Entry::Released(16))?;
     assert_eq!(rt; released.as_slice(), b"released 16".as_slice());
+    Ok(())
+}
+
+const AT: Triple = Triple {
+    x: -5,
+    y: 0,
+    z: 1_048_576,
+};
+
+const BY: Triple = Triple { x: 4, y: 5, z: -6 };
+
+const NAME: Name = Name(*b"colour_2\0\0\0\0\0\0\0\0");
+
+const LONG: Name = Name(*b"abcdefghijklmnop");
+
+const CORNERS: [Pair; 3] = [
+    Pair { x: 0, y: 0 },
+    Pair { x: 7, y: -1 },
+    Pair { x: 3, y: 8 },
+];
+
+/// A call of each kind but those with corners, and its command.
+fn calls() -> [(Call, &'static str); 23] {
+    let (a, b) = (Tag(65), Tag(66));
+    [
+        (Call::Mvfs { at: AT }, "mvfs -5 0 1048576"),
+        (Call::Mev { end: a, at: AT }, "mev 65 -5 0 1048576"),
+        (Call::Mef { from: a, to: b }, "mef 65 66"),
+        (Call::Mekr { keep: a, ring: b }, "mekr 65 66"),
+        (Call::Mfkrh { ring: a }, "mfkrh 65"),
+        (Call::Kvfs { body: a }, "kvfs 65"),
+        (Call::Kev { fin: a }, "kev 65"),
+        (Call::Kef { fin: a }, "kef 65"),
+        (Call::Kemr { fin: a }, "kemr 65"),
+        (Call::Kfmrh { keep: a, kill: b }, "kfmrh 65 66"),
+        (Call::RingMove { ring: a, to: b }, "ringmove 65 66"),
+        (
+            Call::Block { at: AT, size: BY },
+            "block -5 0 1048576 4 5 -6",
+        ),
+        (Call::Sweep { face: a, by: BY }, "sweep 65 4 5 -6"),
+        (Call::Move { body: a, by: BY }, "move 65 4 5 -6"),
+        (
+            Call::Turn {
+                body: a,
+                axis: Axis::Y,
+                turns: 3,
+            },
+            "turn 65 y 3",
+        ),
+        (Call::Delete { body: a }, "delete 65"),
+        (
+            Call::SetAttr {
+                owner: a,
+                name: NAME,
+                value: -9,
+            },
+            "set 65 colour_2 -9",
+        ),
+        (
+            Call::DropAttr {
+                owner: a,
+                name: LONG,
+            },
+            "drop 65 abcdefghijklmnop",
+        ),
+        (Call::Ask { tag: a }, "ask 65"),
+        (Call::Kids { tag: a }, "kids 65"),
+        (Call::Ring { ring: a }, "ring 65"),
+        (Call::Counts { body: a }, "counts 65"),
+        (Call::Bodies, "bodies"),
+    ]
+}
+
+/// An act of each kind but the calls, and its command.
+fn other_acts() -> [(Act, &'static str); 5] {
+    [
+        (Act::Mark, "mark"),
+        (Act::Goto(Tag(70)), "goto 70"),
+        (Act::Unmark(Tag(70)), "unmark 70"),
+        (Act::Marks, "marks"),
+        (Act::Delta(Tag(70)), "delta 70"),
+    ]
+}
+
+/// What a journal says of the act.
+fn command(alloc: Global, act: Act) -> Result<Text, NoMemory> {
+    entry_text(alloc, Entry::Did { thread: 2, act })
+}
+
+#[test]
+fn acts_have_their_commands(rt: HostRuntime) -> Result<(), Fail> {
+    let alloc = rt.alloc();
+    for (call, wanted) in calls() {
+        let wanted = format!(in alloc; "did 2 {wanted}")?;
+        let text = command(alloc, Act::Call(call))?;
+        assert_eq!(rt; text.as_slice(), wanted.as_bytes());
+    }
+    for (act, wanted) in other_acts() {
+        let wanted = format!(in alloc; "did 2 {wanted}")?;
+        let text = command(alloc, act)?;
+        assert_eq!(rt; text.as_slice(), wanted.as_bytes());
+    }
+    Ok(())
+}
+
+#[test]
+fn polygons_have_their_commands(rt: HostRuntime) -> Result<(), Fail> {
+    let alloc = rt.alloc();
+    let corners = CornerList::of(CORNERS.to_vec(alloc)?);
+    let lamina = Call::Lamina { z: -2, corners };
+    let text = command(alloc, Act::Call(lamina))?;
+    assert_eq!(rt; text.as_slice(), b"did 2 lamina -2 0 0 7 -1 3 8".as_slice());
+    let corners = CornerList::of(CORNERS.to_vec(alloc)?);
+    let prism = Call::Prism {
+        z: -2,
+        h: 9,
+        corners,
+    };
+    let text = command(alloc, Act::Call(prism))?;
+    assert_eq!(rt;
+        text.as_slice(),
+        b"did 2 prism -2 9 0 0 7 -1 3 8".as_slice()
+    );
     Ok(())
 }

@@ -1,9 +1,11 @@
+//! Numbers, by their digits.
 ghost use Rattle.std.specs.Prelude.{◌≡◌, ◌+◌, ◌-◌, ◌*◌, ◌^◌, if◌then◌else◌, option_map, pos, neg_ℤ};
-ghost use Rattle.script_text.specs.Form.{is_digit, digits_of, below, number_of};
+ghost use Rattle.script_text.specs.Numbers.{is_digit, digits_of, below, number_of};
 
 /// The number that some digits and one more spell, where it is below 2^64.
 fn with_digit(front: u64, digit: u8) -> Option<u64>
-    ensures { result ≡ (if is_digit digit then below (2 ^ 64) (Some (10 * front + (digit - 48))) else None) }
+    ensures { result
+        ≡ (if is_digit digit then below (2 ^ 64) (Some (10 * front + (digit - 48))) else None) }
 {
     if digit < b'0' || digit > b'9' {
         return None;

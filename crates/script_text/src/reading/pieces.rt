@@ -1,7 +1,7 @@
-ghost use Rattle.std.specs.Prelude.{◌≡◌, ◌∷◌, [], IfNone, option_map};
-ghost use Rattle.std.specs.Option.{option_map_or};
-ghost use Rattle.script_text.specs.Form.{pieces_of, lines_of, words_of};
-ghost use Rattle.script_text.specs.Reading.{first_piece, after_text};
+//! Lines and words, one after another.
+ghost use Rattle.std.specs.Prelude.{◌≡◌, ◌∷◌, IfNone, option_copied, option_map};
+ghost use Rattle.script_text.specs.Pieces.{pieces_of, lines_of, words_of};
+ghost use Rattle.script_text.specs.Reading.{first_piece, after_text, words_left};
 
 const NEWLINE: u8 = 10;
 
@@ -23,14 +23,16 @@ fn split_piece(bytes: &[u8], separator: u8) -> Option<(&[u8], &[u8])>
 
 /// The first line, and the bytes after it.
 pub(crate) fn next_line(bytes: &[u8]) -> Option<(&[u8], &[u8])>
-    ensures { option_map (λ p. (p.0.now, lines_of p.1.now)) result ≡ first_piece (lines_of bytes.now) }
+    ensures { option_map (λ p. (p.0.now, lines_of p.1.now)) result
+        ≡ first_piece (lines_of bytes.now) }
 {
     split_piece(bytes, NEWLINE)
 }
 
 /// The bytes after the first line, where that is this text.
 pub(crate) fn after_line<'a>(bytes: &'a [u8], text: &[u8]) -> Option<&'a [u8]>
-    ensures { option_map (λ rest. lines_of rest.now) result ≡ after_text text.now (first_piece (lines_of bytes.now)) }
+    ensures { option_map (λ rest. lines_of rest.now) result
+        ≡ after_text text.now (first_piece (lines_of bytes.now)) }
 {
     let (line, rest) = next_line(bytes)?;
     if line == text { Some(rest) } else { None }
@@ -38,8 +40,7 @@ pub(crate) fn after_line<'a>(bytes: &'a [u8], text: &[u8]) -> Option<&'a [u8]>
 
 /// The first word, and what follows the space after it.
 pub(crate) fn first_word(line: &[u8]) -> (&[u8], Option<&[u8]>)
-    ensures { words_of line.now
-        ≡ result.0.now ∷ option_map_or (λ rest. words_of rest.now) result.1 [] }
+    ensures { words_of line.now ≡ result.0.now ∷ words_left (option_copied result.1) }
 {
     match split_piece(line, SPACE) {
         Some((word, rest)) => (word, Some(rest)),

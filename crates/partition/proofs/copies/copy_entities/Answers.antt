@@ -5,7 +5,7 @@ use Rattle.partition.proofs.Live.{live_blocks-step, live_blocks-all, live_of-not
 use Rattle.partition.proofs.copies.copy_entities.Goals as goal
 
 pub loop-block-init : goal.loop-block-init
-loop-block-init g c = record { items = c.new-copied.ensures.items ∙ live_of-nothing c.args.store.now.map; cost = omega arith }
+loop-block-init g c = c.new-copied.ensures.items ∙ live_of-nothing c.args.store.now.state.map
 
 pub copy_block-requires : goal.copy_block-requires
 copy_block-requires g c =
@@ -14,14 +14,12 @@ copy_block-requires g c =
     (ByRecursion-get_or (λ b. (1 ≤ b) × (b ≤ 262143)) blocks c.loop-block.block-index 0 (omega arith) range).1
 
 pub loop-block-preserved : goal.loop-block-preserved
-loop-block-preserved g c = record {
-  items = live_blocks-step c.args.store.now.map c.blocks-block-items.result.now c.loop-block.block-index c.loop-block.copied.items c.copy_block.new.copied.items
-      (omega arith) c.loop-block.invariant.items c.in_ok-copy_block.ensures.value;
-  cost = omega arith;
-}
+loop-block-preserved g c =
+    live_blocks-step c.args.store.now.state.map c.blocks-block-items.result.now c.loop-block.block-index c.loop-block.copied.items c.copy_block.new.copied.items
+    (omega arith) c.loop-block.invariant c.in_ok-copy_block.ensures
 
-pub returns-clause-value : goal.returns-clause-value
-returns-clause-value g c =
+pub returns : goal.returns
+returns g c =
     let blocks = c.blocks-block-items in
-    live_blocks-all c.args.store.now.map c.args.store.now.blocks blocks.result.now c.loop-block.block-index c.loop-block.copied.items
-    (omega arith) blocks.ensures.value blocks.ensures.ascending (λ t e h. (blocks.ensures.hosted t e h).owned) c.loop-block.invariant.items
+    live_blocks-all c.args.store.now.state.map c.args.store.now.state.blocks blocks.result.now c.loop-block.block-index c.loop-block.copied.items
+    (omega arith) blocks.ensures.value blocks.ensures.ascending (λ t e h. (blocks.ensures.hosted t e h).owned) c.loop-block.invariant

@@ -5,7 +5,6 @@ use Rattle.partition.proofs.difference.list_changed.Given as goal
 
 abbrev pub invariant-loop-tag : goal.invariant-loop-tag
 invariant-loop-tag g l = record {
-  items : l.changed.items ≡ l.initial.changed.items ++ map (λ p. p.0) (filter (λ p. differ (get l.store.map p.0) (Some p.1)) (take l.tag-index l.to));
+  items : l.changed.items ≡ l.initial.changed.items ++ map (λ p. p.0) (filter (λ p. differ (get l.store.state.map p.0) (Some p.1)) (take l.tag-index l.to));
   spare : l.initial.changed.spare ≤ l.changed.spare + l.tag-index;
-  cost : l.steps ≡ l.initial.steps + l.tag-index;
 }

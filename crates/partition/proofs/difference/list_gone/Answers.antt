@@ -3,7 +3,7 @@ use Rattle.std.specs.FinMap.{find}
 use Rattle.std.proofs.lemmas.List.{take_all}
 use Rattle.pk_base.specs.declared.tag.Tag.{Tag}
 use Rattle.pk_base.specs.declared.entity.Entity.TheVariants.{Body}
-use Rattle.pk_model.specs.Tags.{tag}
+use Rattle.pk_base.specs.Blocks.{tag}
 use Rattle.pk_model.specs.Maps.{tag_cmp}
 use Rattle.partition.proofs.Differs.{tags_passing-more, missing, present}
 use Rattle.partition.proofs.difference.list_gone.Goals as goal

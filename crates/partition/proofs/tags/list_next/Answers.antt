@@ -1,6 +1,7 @@
 use Rattle.std.proofs.Common.{◌≡◌, ◌++◌, [], ◌∷◌, get_or, take, ap, sym, arith, ◌∙◌, append_assoc}
 use Rattle.std.proofs.lemmas.List.{take_more}
-use Rattle.pk_model.specs.Tags.{tag, next_tags}
+use Rattle.pk_base.specs.Blocks.{tag}
+use Rattle.pk_model.specs.Tags.{next_tags}
 use Rattle.pk_model.proofs.TagLists.{tag_at-next_tags, length-next_tags}
 use Rattle.partition.proofs.Blocks.{few_blocks}
 use Rattle.partition.proofs.tags.list_next.Goals as goal

@@ -3,4 +3,4 @@ use Rattle.pk_model.proofs.TagLists.{tag_at-tags_of}
 use Rattle.partition.proofs.tags.tag_in.Goals as goal
 
 pub returns : goal.returns
-returns c = sym (tag_at-tags_of c.args.blocks.now c.args.place c.requires.place)
+returns c = rw c.from-tags.ensures (sym (tag_at-tags_of c.args.blocks.now c.args.place c.requires.place))

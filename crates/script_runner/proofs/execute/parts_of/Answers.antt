@@ -1,6 +1,6 @@
 use Rattle.std.proofs.Common.{◌≤◌, length, sym, subst}
 use Rattle.std.specs.List.{AllByRecursion}
-use Rattle.script_runner.specs.Run.{IsActLine}
+use Rattle.script_runner.specs.Built.{IsActLine}
 use Rattle.script_runner.proofs.ThreadParts.{between_is, parts_whole}
 use Rattle.script_runner.proofs.execute.parts_of.Goals as goal
 

@@ -2,7 +2,7 @@ use Rattle.std.proofs.Common.{List, Bool, true, false, sym, ap, ◌∙◌, rules
 use Rattle.std.specs.List.{list_any}
 use Rattle.std.proofs.lemmas.Iterator.{YieldsList-from_slice}
 use Rattle.std.proofs.lemmas.Iterator.Search.{any_from_yields_List}
-use Rattle.script_runner.specs.Run.{is_refused}
+use Rattle.script_runner.specs.Statuses.{is_refused}
 use Rattle.script_text.specs.declared.report.Line.{Line}
 use Rattle.script_runner.specs.declared.run.Status.{Status}
 use Rattle.script_runner.specs.declared.run.Status.TheVariants as status

@@ -1,6 +1,6 @@
 use Rattle.std.proofs.Common.{◌++◌, codes}
 use Rattle.script_text.specs.Text.{text_of, number, newline, threads_text, journals_text}
-use Rattle.script_text.proofs.PlainText.{reported}
+use Rattle.script_text.proofs.Grouping.{reported}
 use Rattle.script_text.proofs.printing.report_text.Goals as goal
 
 pub returns : goal.returns

@@ -1,5 +1,5 @@
 use Rattle.std.proofs.Common.{◌≡◌, bytes_eq, codes, false, ◌+◌, ◌-◌, ◌<◌, ap, sym, ◌∙◌, arith}
-use Rattle.script_text.specs.Form.{lines_of}
+use Rattle.script_text.specs.Pieces.{lines_of}
 use Rattle.script_text.specs.Reading.{behind}
 use Rattle.script_text.proofs.Acts.{acts_at, acts_step}
 use Rattle.script_text.proofs.reading.read_acts.Goals as goal

@@ -1,4 +1,4 @@
-use Rattle.entity_store.proofs.Kept.{kept_at_first}
+use Rattle.entity_store.proofs.KeptSlots.{kept_at_first}
 use Rattle.entity_store.proofs.MapOf.{map_of-nil}
 use Rattle.entity_store.proofs.store.Store.new.Goals as goal
 

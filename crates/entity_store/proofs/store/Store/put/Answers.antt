@@ -1,8 +1,8 @@
 use Rattle.std.proofs.Common.{is_some, None, sym, ap, subst, ◌∙◌, arith}
 use Rattle.std.proofs.lemmas.List.{get_or_read}
 use Rattle.pk_model.specs.Maps.{EntityMap, with_entity}
-use Rattle.entity_store.specs.Store.{Stored, IfHosted}
-use Rattle.entity_store.proofs.Kept.{counts_what_is_there, fits_after_write, kept_after_write, stored_after_write}
+use Rattle.entity_store.specs.Store.{Stored, StoreView, IfHosted}
+use Rattle.entity_store.proofs.KeptSlots.{counts_what_is_there, fits_after_write, kept_after_write, stored_after_write}
 use Rattle.entity_store.proofs.store.Store.put.Goals as goal
 
 pub recount-self-inside-requires-clause-had : goal.recount-self-inside-requires-clause-had
@@ -31,16 +31,16 @@ invariant_of-self g c =
     let within = rw (c.unwrap-slot.ensures, c.deref.ensures.value) at c.slot_of.ensures.within in
     let place = rw (c.unwrap-slot.ensures, c.deref.ensures.value) at c.slot_of.ensures.place in
     let there = c.is_some.ensures ∙ ap is_some (get_or_read slots slot c.index.result.now (omega (arith, c.self.invariant.places)) c.index.ensures None) in
-    let hosted = subst (λ (s : Stored). IfHosted s.blocks c.args.tag c.args.to) (sym c.self.view_is) c.requires.hosted in
+    let hosted = subst (λ (s : StoreView). IfHosted s.state.blocks c.args.tag c.args.to) (sym c.self.view_is) c.requires.hosted in
     kept_after_write c.self.inside.blocks.items slots c.self.inside.live c.recount-self-inside.result slot c.args.tag c.args.to c.self.invariant within place hosted
     (rw (there, c.is_some-2.ensures) at c.recount-self-inside.ensures)
 
-pub returns-clause-value : goal.returns-clause-value
-returns-clause-value g c =
+pub returns-clause-state : goal.returns-clause-state
+returns-clause-state g c =
     let blocks = c.self.inside.blocks.items in
     let within = rw (c.unwrap-slot.ensures, c.deref.ensures.value) at c.slot_of.ensures.within in
     let place = rw (c.unwrap-slot.ensures, c.deref.ensures.value) at c.slot_of.ensures.place in
     let with_map : EntityMap → Stored = λ m. record { blocks = blocks; map = m } in
     let written : Stored → Stored = λ s. record { blocks = s.blocks; map = with_entity s.map c.args.tag c.args.to } in
     ap with_map (stored_after_write blocks c.self.inside.slots.items c.self.inside.live c.unwrap-slot.result c.args.tag c.args.to c.self.invariant within place)
-    ∙ ap written c.self.view_is
+    ∙ ap (λ (v : StoreView). written v.state) c.self.view_is

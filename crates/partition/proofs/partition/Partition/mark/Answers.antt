@@ -1,48 +1,39 @@
-use Rattle.std.proofs.Common.{◌≡◌, ◌<◌, ◌+◌, true, Some, Ok, [], ◌∷◌, ◌++◌, ap, sym, subst, refl, ◌∙◌, arith}
-use Rattle.std.specs.List.{AllByRecursion}
-use Rattle.std.specs.FinMap.{from_entries}
-use Rattle.pk_base.specs.Listed.{bare}
-use Rattle.pk_base.specs.Plain.{plain}
+use Rattle.std.proofs.Common.{◌≡◌, Some, [], ◌∷◌, ◌++◌, ap, sym, subst, ◌∙◌, arith}
 use Rattle.pk_base.specs.declared.act.Act.TheVariants as act
 use Rattle.pk_base.specs.declared.act.Entry.TheVariants.{Did}
-use Rattle.pk_base.specs.declared.act.Reply.TheVariants as reply
-use Rattle.pk_model.proofs.TagLists.{ByRecursion-append}
 use Rattle.pk_model.specs.Tags.{spare_of}
-use Rattle.partition.specs.MarkCopy.{IsCopy}
-use Rattle.partition.specs.Partition.{Appends, PartitionView, holder_of}
-use Rattle.partition.specs.Inside.{view_of}
-use Rattle.partition.specs.declared.marks.MarkCopy.{MarkCopy}
-use Rattle.partition.proofs.Valid.{copied, from_entries-entries, mark_leads, marked, valid_after}
+use Rattle.pk_model.specs.Step.{short}
+use Rattle.pk_model.specs.VertexBodies.{vertex_bodies}
+use Rattle.pk_model.proofs.Steps.{not_short}
+use Rattle.partition.specs.Partition.{Answers, PartitionView}
+use Rattle.partition.proofs.Valid.{did_answers, did_leads, valid_after, view}
 use Rattle.partition.proofs.partition.Partition.mark.Goals as goal
 
 pub invariant_of-self-2 : goal.invariant_of-self-2
 invariant_of-self-2 g c =
     let p = c.self.inside in
+    let s = p.contents in
     let t = c.unwrap-thread.result in
-    let copy : MarkCopy = record { tag = c.tag_in-tag.result; parent = Some p.at; entities = c.in_ok-entities.entities; live = true } in
-    let spare = subst (λ (v : PartitionView). 0 < spare_of v.state.blocks v.state.used) (sym c.self.view_is) c.requires.enough in
-    let place = rw c.blocks-2.ensures.value at c.tag_in-tag.ensures in
-    let stands = ap (λ es. from_entries es) c.in_ok-entities.ensures.value ∙ from_entries-entries p.store.map in
-    let leads = mark_leads p.store p.store p.marks.items p.at p.used p.holder t c.unwrap-thread.ensures copy spare refl place refl stands refl in
-    let grown = c.push_reserved-2.ensures.items ∙ ap (λ j. j ++ Did t act.Mark ∷ []) c.in_ok-reserve.ensures.items in
-    let marks : c.push_reserved.new.self.items ≡ p.marks.items ++ copy ∷ [] = c.push_reserved.ensures.items ∙ ap (λ ks. ks ++ copy ∷ []) c.in_ok-reserve-2.ensures.items in
-    let one : AllByRecursion (IsCopy p.store.blocks) (copy ∷ []) = (copied p.store.blocks p.store.map copy c.in_ok-entities.ensures.value c.blocks-2.ensures.hosted, tt) in
-    let copies = ByRecursion-append (IsCopy p.store.blocks) p.marks.items (copy ∷ []) c.self.invariant.copies one in
-    rw marks (valid_after p.number p.store p.store p.marks.items (p.marks.items ++ copy ∷ []) p.at c.tag_in-tag.result p.used (p.used + 1) p.holder p.holder p.journal.items _ (Did t act.Mark) (Some (Ok (reply.Made (bare (copy.tag ∷ []))))) _ _
-    c.self.invariant leads grown refl copies
-    (λ h. omega (arith, c.in_ok-reserve.ensures.ok, c.in_ok-reserve.ensures.len, c.push_reserved-2.ensures.capacity, p.journal.ok.0, c.reserve.new.self.ok.0)))
+    let a = act.Mark in
+    let holds : s.holder ≡ Some t = sym c.holder.ensures ∙ c.unwrap-thread.ensures in
+    let spare = ap (λ (v : PartitionView). spare_of v.state.blocks v.state.used) c.self.view_is in
+    let enough : short vertex_bodies s a ≡ 0 = not_short 1 (spare_of s.blocks s.used) (omega (arith, c.requires.enough, spare)) in
+    let grown = c.end_act.ensures.entry ∙ ap (λ j. j ++ Did t a ∷ []) c.in_ok-reserve.ensures.items in
+    valid_after vertex_bodies p.number s p.journal.items _ c.self.invariant (Did t a) (Some c.in_ok-done.done) c.mark.new.self _ _
+    (did_leads vertex_bodies s c.mark.new.self t a c.in_ok-done.done holds enough c.in_ok-done.ensures) grown
+    (λ h. omega (arith, c.in_ok-reserve.ensures.ok, c.in_ok-reserve.ensures.len, c.end_act.ensures.room, p.journal.ok.0, c.reserve.new.self.ok.0))
 
-pub returns-clause-answers : goal.returns-clause-answers
-returns-clause-answers g c =
+pub returns : goal.returns
+returns g c =
     let p = c.self.inside in
+    let s = p.contents in
     let t = c.unwrap-thread.result in
-    let copy : MarkCopy = record { tag = c.tag_in-tag.result; parent = Some p.at; entities = c.in_ok-entities.entities; live = true } in
-    let spare = subst (λ (v : PartitionView). 0 < spare_of v.state.blocks v.state.used) (sym c.self.view_is) c.requires.enough in
-    let place = rw c.blocks-2.ensures.value at c.tag_in-tag.ensures in
-    let stands = ap (λ es. from_entries es) c.in_ok-entities.ensures.value ∙ from_entries-entries p.store.map in
-    let leads = mark_leads p.store p.store p.marks.items p.at p.used p.holder t c.unwrap-thread.ensures copy spare refl place refl stands refl in
-    let grown = c.push_reserved-2.ensures.items ∙ ap (λ j. j ++ Did t act.Mark ∷ []) c.in_ok-reserve.ensures.items in
-    let marks : c.push_reserved.new.self.items ≡ p.marks.items ++ copy ∷ [] = c.push_reserved.ensures.items ∙ ap (λ ks. ks ++ copy ∷ []) c.in_ok-reserve-2.ensures.items in
-    let made = c.push.ensures.items ∙ ap (λ ts. ts ++ copy.tag ∷ []) c.in_ok-made.ensures.empty in
-    subst (λ v. Appends v (Did (holder_of v) act.Mark) (Some (Ok (reply.Made (plain c.push.new.self)))) (view_of p.number p.store c.push_reserved.new.self.items c.tag_in-tag.result (p.used + 1) p.holder c.push_reserved-2.new.self.items)) c.self.view_is
-    (rw (marks, grown) (marked p.number p.store p.marks.items p.at p.used p.holder t c.unwrap-thread.ensures p.journal.items copy (plain c.push.new.self) (ap bare made) leads))
+    let a = act.Mark in
+    let holds : s.holder ≡ Some t = sym c.holder.ensures ∙ c.unwrap-thread.ensures in
+    let spare = ap (λ (v : PartitionView). spare_of v.state.blocks v.state.used) c.self.view_is in
+    let enough : short vertex_bodies s a ≡ 0 = not_short 1 (spare_of s.blocks s.used) (omega (arith, c.requires.enough, spare)) in
+    let grown = c.end_act.ensures.entry ∙ ap (λ j. j ++ Did t a ∷ []) c.in_ok-reserve.ensures.items in
+    let answers = did_answers vertex_bodies p.number s c.mark.new.self p.journal.items c.end_act.new.journal.items t a c.in_ok-done.done holds enough c.in_ok-done.ensures grown in
+    let new = view p.number c.mark.new.self c.end_act.new.journal.items in
+    subst (λ (v : PartitionView). Answers vertex_bodies v a c.end_act.result new) c.self.view_is
+    (subst (λ r. Answers vertex_bodies (view p.number s p.journal.items) a r new) (sym c.end_act.ensures.answer) answers)

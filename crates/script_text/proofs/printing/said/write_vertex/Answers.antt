@@ -1,7 +1,7 @@
 use Rattle.std.proofs.Common.{◌++◌, codes}
 use Rattle.std.proofs.lemmas.Result.{IfOk-equal}
 use Rattle.script_text.specs.Text.{tag_field, signed}
-use Rattle.script_text.proofs.PlainText.{pointed}
+use Rattle.script_text.proofs.Grouping.{pointed}
 use Rattle.script_text.proofs.printing.said.write_vertex.Goals as goal
 
 pub returns : goal.returns

@@ -1,6 +1,6 @@
 use Rattle.std.proofs.Common.{ap, sym, add-one, arith}
 use Rattle.std.proofs.lemmas.List.{take_rest}
-use Rattle.script_text.specs.Form.{Pieces}
+use Rattle.script_text.specs.Pieces.{Pieces}
 use Rattle.script_text.specs.Reading.{first_piece}
 use Rattle.script_text.proofs.Pieces.{pieces_of_at, pieces_of_none}
 use Rattle.script_text.proofs.reading.pieces.split_piece.Goals as goal

@@ -1,0 +1,4 @@
+-- In reading order.
+pub mod Fields
+pub mod Commands
+pub mod Operands

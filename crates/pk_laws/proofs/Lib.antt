@@ -1,0 +1,9 @@
+pub mod FirstMarks
+pub mod Return
+pub mod LiveMarks
+pub mod Computed
+pub mod Differences
+pub mod WorkedJournals
+pub mod Walks
+pub mod WorkedReports
+pub mod WorkedBlocks

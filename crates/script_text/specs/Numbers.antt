@@ -1,0 +1,27 @@
+-- Numbers by their digits.
+use Rattle.std.specs.Prelude.{ℕ, ◌+◌, ◌-◌, ◌*◌, ◌^◌, nat_lt, nat_le, ◌==◌, ◌&&◌, Bool, if◌then◌else◌, List, [], ◌∷◌, Option, None, Some, option_map, ℤ, pos, neg_ℤ}
+use Rattle.std.specs.Option.{option_and_then}
+use Rattle.std.specs.List.{list_all}
+
+abbrev pub is_digit : ℕ → Bool
+is_digit b = nat_le 48 b && nat_le b 57
+
+abbrev pub digits_value : ℕ → List ℕ → ℕ
+digits_value front [] = front
+digits_value front (d ∷ ds) = digits_value (10 * front + (d - 48)) ds
+
+-- one or more digits
+abbrev pub digits_of : List ℕ → Option ℕ
+digits_of [] = None
+digits_of (d ∷ ds) = if list_all is_digit (d ∷ ds) then Some (digits_value 0 (d ∷ ds)) else None
+
+-- a number that is below a limit
+abbrev pub below : ℕ → Option ℕ → Option ℕ
+below limit o = option_and_then (λ n. if nat_lt n limit then Some n else None) o
+
+-- an optional `-` and one or more digits, which fit a signed number of 64 bits
+abbrev pub number_of : List ℕ → Option ℤ
+number_of [] = None
+number_of (b ∷ bs) =
+    if b == 45 then option_map (λ n. neg_ℤ (pos n)) (below (2 ^ 63 + 1) (digits_of bs))
+    else option_map pos (below (2 ^ 63) (digits_of (b ∷ bs)))

@@ -1,0 +1,47 @@
+ghost use Rattle.std.specs.Prelude.{◌≡◌, ◌↔◌, IfSome, IsSome};
+ghost use Rattle.session_script.specs.Line.{text_of_line};
+
+use script_runner::Status;
+use script_text::Cause;
+use std::fmt;
+
+/// The line for standard error that says why there is no whole report.
+#[derive(Clone, Copy, Debug)]
+pub(crate) struct Line {
+    status: Status,
+}
+
+/// The line of a status. `Done` and `SomeRefused` have none.
+pub(crate) fn line_of(status: Status) -> Option<Line>
+    ensures some { IsSome result ↔ IsSome (text_of_line status) }
+    ensures line { IfSome result (λ line. line ≡ record { status = status }) }
+{
+    match status {
+        Status::Done | Status::SomeRefused => None,
+        Status::BadWords
+        | Status::BadScript { .. }
+        | Status::ReadFault
+        | Status::WriteFault
+        | Status::NoMemory
+        | Status::TooLong => Some(Line { status }),
+    }
+}
+
+impl fmt::Display for Line {
+    ghost output = { λ line. text_of_line line.status };
+
+    fn fmt<W: fmt::Write>(&self, f: &mut fmt::Formatter<W>) -> fmt::Result {
+        match self.status {
+            Status::Done | Status::SomeRefused => Ok(()),
+            Status::BadWords => write!(f, "bad words"),
+            Status::BadScript {
+                line,
+                cause: Cause::NotBuilt,
+            } => write!(f, "bad script: line {line}: NotBuilt"),
+            Status::ReadFault => write!(f, "read fault"),
+            Status::WriteFault => write!(f, "write fault"),
+            Status::NoMemory => write!(f, "no memory"),
+            Status::TooLong => write!(f, "too long"),
+        }
+    }
+}
