@@ -1,0 +1,17 @@
+pub mod Journals
+pub mod Seating
+pub mod Keeps
+pub mod Book
+pub mod Claiming
+pub mod Releasing
+pub mod Blocks
+pub mod Drawing
+pub mod Splitting
+pub mod Joining
+pub mod Rows
+pub mod Telling
+pub mod Turning
+pub mod Opened
+pub mod Closed
+pub mod Emptied
+pub mod Visiting
