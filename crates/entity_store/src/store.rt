@@ -34,7 +34,9 @@ impl Model for Store {
 
     ghost view = { λ s. record {
       state = stored s.blocks.items s.slots.items;
-      reserved = room_for (vec_capacity s.blocks - vec_len s.blocks) (vec_capacity s.slots - vec_len s.slots);
+      reserved =
+          room_for (vec_capacity s.blocks - vec_len s.blocks)
+          (vec_capacity s.slots - vec_len s.slots);
     } };
 
     ghost invariant = { λ s. IsKept s.blocks.items s.slots.items s.live };

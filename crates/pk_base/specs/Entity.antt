@@ -78,7 +78,8 @@ same_entity (Shell a p) (Shell b q) = same_tag a b && int_eq p q
 same_entity (Face a o) (Face b u) = same_tag a b && same_tag o u
 same_entity (Loop a f l) (Loop b g m) = same_tag a b && (same_optional f g && same_optional l m)
 same_entity (Fin a n p m e v) (Fin b o q k f w) =
-    same_tag a b && (same_tag n o && (same_tag p q && (same_tag m k && (same_tag e f && same_tag v w))))
+    same_tag a b && (same_tag n o && (same_tag p q
+    && (same_tag m k && (same_tag e f && same_tag v w))))
 same_entity (Edge a f) (Edge b g) = same_tag a b && same_tag f g
 same_entity (Vertex a p) (Vertex b q) = same_tag a b && same_point p q
 same_entity (Attr a n v) (Attr b m w) = same_tag a b && (same_name n m && int_eq v w)

@@ -11,16 +11,11 @@ use Rattle.pk_model.specs.State.{Mark, PartitionState, opening}
 use Rattle.pk_model.specs.Modelling.{Modelling}
 use Rattle.pk_model.specs.Step.{after_deletion, live_rows, row_of}
 use Rattle.pk_model.specs.Replay.{replay}
-use Rattle.pk_model.proofs.TagLists.{ByRecursion-weaker, ByRecursion-at, TagsAscend-tags_of}
+use Rattle.pk_model.proofs.TagLists.{ByRecursion-weaker, ByRecursion-at, ByRecursion-take, TagsAscend-tags_of}
 use Rattle.pk_model.proofs.Transitions.{contains_first, EachWay, replay_way}
 use Rattle.pk_laws.proofs.FirstMarks.{MarksTaken, MarksTaken-opening, MarksTaken-way, deletion-tag, next_tag, taken_tags, taken_with_next}
 
 -- ---- tags that ascend
-
-ByRecursion-take : {X : Type 0} (P : X → Type 0) (n : ℕ) (xs : List X) → AllByRecursion P xs → AllByRecursion P (take n xs)
-ByRecursion-take P zero xs h = tt
-ByRecursion-take P (suc n) [] h = tt
-ByRecursion-take P (suc n) (x ∷ xs) h = (h.0, ByRecursion-take P n xs h.1)
 
 TagsAscend-take : (n : ℕ) (ts : List Tag) → TagsAscend ts → TagsAscend (take n ts)
 TagsAscend-take zero ts h = tt

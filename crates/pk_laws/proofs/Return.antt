@@ -26,6 +26,7 @@ use Rattle.pk_model.specs.Replay.{replay_from, replay}
 use Rattle.pk_model.specs.VertexBodies.{vertex_bodies}
 use Rattle.pk_laws.specs.WorkedJournals.{vertex_body}
 use Rattle.pk_laws.specs.Return.{WasMade, IsUnmarked, GoesTo, IsRefused}
+use Rattle.pk_model.proofs.TagLists.{contains_only}
 use Rattle.pk_model.proofs.Replays.{replay_from-first, replay_from-append, replay_from-step}
 use Rattle.pk_model.proofs.Transitions.{enough, step_way}
 use Rattle.pk_laws.proofs.FirstMarks.{find_mark, next_tag, same_tag-same, find_mark-tag, deletion_by, find_mark-deletion, mark_at_found, mark_at_live, mark_at_dead, MarksTaken, MarksTaken-way, no_mark_yet, replay-MarksTaken, Found, Outlives, Found-way, replay-Found, mark_owned}
@@ -136,11 +137,6 @@ unmarked K s t m r taken f is =
 
     dead_now : (q : Tag) → (after_deletion m q f.mark).live ≡ false
     dead_now q = ap (λ b. (cond b (deleted_mark f.mark) (cond (same_optional f.mark.parent (Some m)) (record f.mark { parent = Some q }) f.mark)).live) same
-
--- a list of one has only that
-contains_only : {X : Type 0} (x y : X) → Contains (x ∷ []) y → x ≡ y
-contains_only x y (zero, h, e) = e
-contains_only x y (suc k, h, e) = absurd (omega arith)
 
 replay-unmarked : (K : Modelling) (m : Tag) (u : ℕ) (es : List Entry) → Contains es (Did u (act.Unmark m)) → (s end : PartitionState) → MarksTaken s → Found m MayGo s → replay_from K s es ≡ Some end → Found m (λ (k : Mark). k.live ≡ false) end
 replay-unmarked K m u [] c s end taken f h = absurd (let l = c.1 in omega arith)

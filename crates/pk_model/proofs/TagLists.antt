@@ -191,7 +191,7 @@ pub NoRepeats-append : (xs ys : List Tag) → NoRepeats xs → NoRepeats ys → 
 NoRepeats-append [] ys h k d = k
 NoRepeats-append (x ∷ xs) ys h k d = (ByRecursion-append _ xs ys h.0 d.0, NoRepeats-append xs ys h.1 k d.1)
 
-ByRecursion-take : {X : Type 0} (P : X → Type 0) (n : ℕ) (xs : List X) → AllByRecursion P xs → AllByRecursion P (take n xs)
+pub ByRecursion-take : {X : Type 0} (P : X → Type 0) (n : ℕ) (xs : List X) → AllByRecursion P xs → AllByRecursion P (take n xs)
 ByRecursion-take P zero xs h = tt
 ByRecursion-take P (suc n) [] h = tt
 ByRecursion-take P (suc n) (x ∷ xs) h = (h.0, ByRecursion-take P n xs h.1)
@@ -291,6 +291,11 @@ TagsAscend-drop (suc n) (t ∷ ts) h = TagsAscend-drop n ts h.1
 pub TagsAscend-next_tags : (blocks : List ℕ) (used : ℕ) → Ascends blocks → TagsAscend (next_tags blocks used)
 TagsAscend-next_tags blocks used h = TagsAscend-drop used (tags_of blocks) (TagsAscend-tags_of blocks h)
 
+-- a list of one has only that
+pub contains_only : {X : Type 0} (x y : X) → Contains (x ∷ []) y → x ≡ y
+contains_only x y (zero, h, e) = e
+contains_only x y (suc k, h, e) = absurd (omega arith)
+
 -- where no tag stands twice, none of the first part is in the second
 pub NoRepeats-between : (xs ys : List Tag) (t : Tag) → NoRepeats (xs ++ ys) → Contains xs t → Contains ys t → ⊥
 NoRepeats-between [] ys t n h k = not_in_nil t h
@@ -298,10 +303,6 @@ NoRepeats-between (x ∷ xs) ys t n h k =
     ⊎_elim (λ (l : Contains (x ∷ []) t). ByRecursion-at (λ u. x ≢ u) (xs ++ ys) t n.0 (Contains-append_right xs ys t k) (contains_only x t l))
     (λ (r : Contains xs t). NoRepeats-between xs ys t n.1 r k)
     (Contains-append_cases (x ∷ []) xs t h)
-  where
-    contains_only : (x y : Tag) → Contains (x ∷ []) y → x ≡ y
-    contains_only x y (zero, h, e) = e
-    contains_only x y (suc k, h, e) = absurd (omega arith)
 
 -- a tag that was taken is none of the next
 pub taken_or_next : (blocks : List ℕ) (used : ℕ) (t : Tag) → Ascends blocks → Contains (take used (tags_of blocks)) t → Contains (next_tags blocks used) t → ⊥

@@ -1,6 +1,6 @@
 use super::acts::act_of_line;
 use super::{ScriptNo, read_script};
-use crate::{EntryList, Operand, Order, Report, ScriptLine, Text, report_text};
+use crate::{Cause, EntryList, Operand, Order, Report, ScriptLine, Text, report_text};
 use pk_base::{Entry, Items, NoMemory, Tag};
 use std::alloc::{AllocError, Global};
 use std::test::Fail;
@@ -18,6 +18,19 @@ fn bad_line(alloc: Global, bytes: &[u8]) -> Option<u32> {
         Err(ScriptNo::Bad { line, .. }) => Some(line),
         _ => None,
     }
+}
+
+#[test]
+fn each_error_has_its_message(rt: HostRuntime) -> Result<(), Fail> {
+    let alloc = rt.alloc();
+    let cause = Cause::NotBuilt;
+    for (no, message) in [
+        (ScriptNo::Bad { line: 3, cause }, "line 3: NotBuilt"),
+        (ScriptNo::NoMemory, "no memory"),
+    ] {
+        assert_eq!(rt; format!(in alloc; "{no}")?.as_str(), message);
+    }
+    Ok(())
 }
 
 fn operands(line: &ScriptLine) -> &[Operand] {
