@@ -2,3 +2,9 @@ pub mod Slots
 pub mod MapOf
 pub mod Places
 pub mod KeptSlots
+pub mod Live
+pub mod FewBlocks
+pub mod Ascending
+pub mod NetChanges
+pub mod FirstValues
+pub mod Recorded

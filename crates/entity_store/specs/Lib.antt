@@ -1,1 +1,9 @@
+-- In reading order.
+pub mod Changes
+pub mod Lists
+pub mod Recording
 pub mod Store
+pub mod Recorder
+pub mod Kids
+pub mod NextTags
+pub mod Modeller

@@ -1,5 +1,5 @@
--- What contracts see of a store: what it holds, which is its blocks and a map over their tags, and
--- how many more blocks it has room for.
+-- What contracts see of a store: what it holds, which is its blocks and a map over their tags; how
+-- many more blocks it has room for; and what the last recorder has recorded.
 use Rattle.std.specs.Prelude.{◌≡◌, ◌≢◌, ℕ, ◌*◌, ◌/◌, min, List, [], ◌∷◌, length, Option, None, Some, IsTrue, MatchOption, ⊤, refl}
 use Rattle.std.specs.FinMap.{get, len, from_entries}
 use Rattle.pk_base.specs.declared.tag.Tag.{Tag}
@@ -10,6 +10,7 @@ use Rattle.pk_model.specs.Tags.{AreInRange, tags_of, owns, Ascends}
 use Rattle.std.specs.Coded.{Coded, code_by, coded×, coded_list, coded_ℕ}
 use Rattle.pk_model.specs.Maps.{EntityMap}
 use Rattle.pk_model.specs.Codes.{map_code}
+use Rattle.entity_store.specs.Recording.{Recording, recording_code, nothing_recorded}
 
 pub record Stored : Type 0 where
   pub blocks : List ℕ
@@ -18,14 +19,21 @@ pub record Stored : Type 0 where
 pub record StoreView : Type 0 where
   pub state : Stored
   pub reserved : ℕ
+  pub recording : Recording
 
 abbrev pub stored_code : Coded Stored
 stored_code = code_by (List ℕ × EntityMap) (coded× (coded_list coded_ℕ) map_code)
     (λ s. (s.blocks, s.map)) (λ p. record { blocks = p.0; map = p.1 }) (λ _. refl)
 
 abbrev pub view_code : Coded StoreView
-view_code = code_by (Stored × ℕ) (coded× stored_code coded_ℕ) (λ v. (v.state, v.reserved))
-    (λ p. record { state = p.0; reserved = p.1 }) (λ _. refl)
+view_code =
+    code_by (Stored × (ℕ × Recording)) (coded× stored_code (coded× coded_ℕ recording_code))
+    (λ v. (v.state, (v.reserved, v.recording)))
+    (λ p. record { state = p.0; reserved = p.1.0; recording = p.1.1 }) (λ _. refl)
+
+abbrev pub recording_of : Option Recording → Recording
+recording_of None = nothing_recorded
+recording_of (Some r) = r
 
 -- how many blocks there is room for, in a list of blocks and in one of slots with so much room left
 abbrev pub room_for : ℕ → ℕ → ℕ

@@ -1,11 +1,17 @@
-ghost use Rattle.std.specs.Prelude.{◌≡◌, ℕ, ◌+◌, ◌*◌, ◌-◌, ◌<◌, ◌≤◌, ◌^◌, ◌↔◌, [], ◌∷◌, ◌++◌, length, replicate, vec_len, vec_capacity, if◌then◌else◌, IsTrue, IsSome, IfSome, OnOk, OnErr, option_copied, nat_lt};
+ghost use Rattle.std.specs.Prelude.{◌≡◌, ℕ, ◌+◌, ◌*◌, ◌-◌, ◌<◌, ◌≤◌, ◌^◌, ◌↔◌, [], ◌∷◌, ◌++◌, length, replicate, vec_len, vec_capacity, if◌then◌else◌, IsTrue, IsSome, IfSome, IfOk, OnOk, OnErr, IsPermutation, None, Some, option_copied, nat_lt};
 ghost use Rattle.std.specs.List.{list_all, AllByRecursion};
 ghost use Rattle.std.specs.FinMap as map;
 ghost use Rattle.pk_model.specs.Tags.{Ascends, AreInRange, owns, tags_of, tag_at};
 ghost use Rattle.pk_model.specs.Maps.{EntityMap, with_entity};
+ghost use Rattle.std.specs.Borrow.{sem, RestsIfErr};
+ghost use Rattle.entity_store.specs.Changes.{net_changes};
+ghost use Rattle.entity_store.specs.Recording.{recorded_put, HasRoomFor};
 ghost use Rattle.entity_store.specs.Store.{IsHosted, IfHosted};
+ghost use Rattle.entity_store.specs.Recorder.{began};
+ghost use Rattle.entity_store.specs.Kids.{kids_of};
+ghost use Rattle.entity_store.specs.contracts.store.Store.{the_row};
 
-use crate::Steps;
+use crate::{ChangeList, KidWalk, RecordRoom, Recorder, Steps};
 use pk_base::{Entity, LAST_BLOCK, NoMemory, TAGS_OF_A_BLOCK, Tag};
 use std::alloc::Global;
 use std::marker::Model;
@@ -22,11 +28,13 @@ pub struct Store {
     blocks: Vec<u32>,
     slots: Vec<Option<Entity>>,
     live: usize,
+    // What the last recorder has recorded, until its changes are listed.
+    recorded: Option<RecordRoom>,
 }
 
 impl Model for Store {
     ghost use Rattle.std.specs.Prelude.{◌-◌, vec_len, vec_capacity};
-    ghost use Rattle.entity_store.specs.Store.{StoreView, view_code, stored, room_for, IsKept};
+    ghost use Rattle.entity_store.specs.Store.{StoreView, view_code, stored, room_for, recording_of, IsKept};
 
     ghost Value = { StoreView };
 
@@ -37,6 +45,7 @@ impl Model for Store {
       reserved =
           room_for (vec_capacity s.blocks - vec_len s.blocks)
           (vec_capacity s.slots - vec_len s.slots);
+      recording = recording_of s.recorded;
     } };
 
     ghost invariant = { λ s. IsKept s.blocks.items s.slots.items s.live };
@@ -52,6 +61,7 @@ impl Store {
             blocks: Vec::new(alloc),
             slots: Vec::new(alloc),
             live: 0,
+            recorded: None,
         }
     }
 
@@ -136,12 +146,102 @@ impl Store {
         ensures state { self.new.state ≡ record self.old.state
             { map = with_entity self.old.state.map tag to } }
         ensures room { self.new.reserved ≡ self.old.reserved }
+        ensures recording { self.new.recording ≡ self.old.recording }
         ensures cost { steps.new ≡ steps.old + 1 }
     {
         steps.tick();
         let slot = slot_of(&self.blocks, tag).unwrap();
         self.live = recount(self.live, self.slots[slot].is_some(), to.is_some());
         self.slots[slot] = to;
+    }
+
+    /// A walk over the live entities with this owner, each once, in an open order.
+    pub fn kids(&self, owner: Tag) -> KidWalk<'_>
+        ensures { IsPermutation (kids_of self.now.state.map (Some owner)) result }
+    {
+        KidWalk::over(self, Some(owner))
+    }
+
+    /// A walk over the live entities without an owner, each once, in an open order.
+    pub fn roots(&self) -> KidWalk<'_>
+        ensures { IsPermutation (kids_of self.now.state.map None) result }
+    {
+        KidWalk::over(self, None)
+    }
+
+    /// Lends the store with room to record the changes of `k` tags. Without memory its state is as
+    /// it was.
+    pub fn recorder(&mut self, alloc: Global, k: usize) -> Result<Recorder<'_>, NoMemory>
+        ensures* lent { sem 𝓛 (RestsIfErr the_row self.entry (λ r. r.store.ghost_name) result
+            (λ n. n ≡ self.old)) }
+        ensures same_store { IfOk result (λ r. r.store.ghost_name ≡ self.entry.ghost_name) }
+        ensures state { IfOk result (λ r. r.store.now.state ≡ self.old.state) }
+        ensures reserved { IfOk result (λ r. r.store.now.reserved ≡ self.old.reserved) }
+        ensures record { IfOk result (λ r. r.store.now.recording ≡ record { first = []; room = k }) }
+    {
+        let room = RecordRoom::new(alloc, k)?;
+        Ok(self.recorder_with(room))
+    }
+
+    /// Lends the store, to record in room taken before. It takes no memory.
+    pub fn recorder_with(&mut self, room: RecordRoom) -> Recorder<'_>
+        ensures same_store { result.store.ghost_name ≡ self.entry.ghost_name }
+        ensures state { result.store.now.state ≡ self.old.state }
+        ensures reserved { result.store.now.reserved ≡ self.old.reserved }
+        ensures record { result.store.now.recording ≡ room }
+    {
+        self.recorded = Some(room);
+        Recorder { store: self }
+    }
+
+    /// Puts, and records what the tag named first.
+    pub(crate) fn put_recorded<L: Ledger>(
+        &mut self,
+        tag: Tag,
+        to: Option<Entity>,
+        steps: &mut Steps<L>,
+    )
+        requires owned { IsTrue (owns self.old.state.blocks tag) }
+        requires hosted { IfHosted self.old.state.blocks tag to }
+        requires room { HasRoomFor self.old.recording tag }
+        ensures state { self.new.state ≡ record self.old.state
+            { map = with_entity self.old.state.map tag to } }
+        ensures reserved { self.new.reserved ≡ self.old.reserved }
+        ensures recorded { self.new.recording ≡ record self.old.recording
+            { first = recorded_put self.old.recording.first tag (map.get self.old.state.map tag) } }
+        ensures cost { steps.new ≤ steps.old + 2 }
+    {
+        self.record_first(tag, steps);
+        self.put(tag, to, steps);
+    }
+
+    /// Records what the tag names, where it was not put before.
+    fn record_first<L: Ledger>(&mut self, tag: Tag, steps: &mut Steps<L>)
+        requires room { HasRoomFor self.old.recording tag }
+        ensures state { self.new.state ≡ self.old.state }
+        ensures reserved { self.new.reserved ≡ self.old.reserved }
+        ensures recorded { self.new.recording ≡ record self.old.recording
+            { first = recorded_put self.old.recording.first tag (map.get self.old.state.map tag) } }
+        ensures cost { steps.new ≤ steps.old + 1 }
+    {
+        let before = self.get(tag, steps).copied();
+        if let Some(recorded) = &mut self.recorded {
+            recorded.note(tag, before);
+        }
+    }
+
+    /// The net change since the record began, which ends the record.
+    pub(crate) fn take_changes<L: Ledger>(&mut self, steps: &mut Steps<L>) -> ChangeList
+        ensures state { self.new.state ≡ self.old.state }
+        ensures reserved { self.new.reserved ≡ self.old.reserved }
+        ensures changes { result ≡ net_changes (began self.old) self.old.state.map }
+        ensures length { length result ≤ length self.old.recording.first }
+        ensures cost { steps.new ≤ steps.old + length self.old.recording.first }
+    {
+        match self.recorded.take() {
+            Some(recorded) => recorded.into_changes(self, steps),
+            None => ChangeList::of(Vec::new(*self.blocks.allocator())),
+        }
     }
 }
 

@@ -1,8 +1,8 @@
 -- What an act reaches, from what was done to the fields.
-use Rattle.std.proofs.Common.{◌≡◌, ℕ, Bool, true, false, T, ◌+◌, ◌*◌, ◌-◌, ◌≤◌, List, [], ◌∷◌, ◌++◌, map, length, Option, Some, Result, Ok, refl, sym, ap, subst, ◌∙◌, arith}
+use Rattle.std.proofs.Common.{◌≡◌, ℕ, Bool, true, ◌+◌, ◌*◌, ◌-◌, ◌≤◌, List, [], ◌∷◌, ◌++◌, map, length, Option, Some, Result, Ok, sym, ap, subst, ◌∙◌, arith}
 use Rattle.std.proofs.lemmas.List.{map_push}
 use Rattle.std.specs.List.{AllByRecursion}
-use Rattle.std.specs.FinMap.{get, entries, entries_sorted, from_entries, get-entries, get-from_entries, same_map, is_sorted, find}
+use Rattle.std.specs.FinMap.{get, entries, entries_sorted, from_entries, get-entries, get-from_entries, same_map, is_sorted}
 use Rattle.pk_base.specs.declared.tag.Tag.{Tag}
 use Rattle.pk_base.specs.declared.entity.Entity.{Entity}
 use Rattle.pk_base.specs.declared.call.Call.{Call}
@@ -23,7 +23,7 @@ use Rattle.partition.specs.MarkCopy.{IsCopy, mark_of}
 use Rattle.partition.specs.Goes.{Made, Went}
 use Rattle.partition.specs.Contents.{state_of}
 use Rattle.partition.specs.declared.marks.MarkCopy.{MarkCopy}
-use Rattle.partition.proofs.Differs.{each_found}
+use Rattle.entity_store.proofs.Live.{all_found, true_of}
 
 -- a call that is not short has tags enough
 pub room_for_call : (K : Modelling) (s : PartitionState) (c : Call) → short K s (act.Call c) ≡ 0 → K.cost s.now c ≤ 64 * length s.blocks - s.used
@@ -67,10 +67,6 @@ module _ (K : Modelling) (store new : StoreView) (marks : List MarkCopy) (at : T
       let answer : PartitionState → Tag → Result Reach Refusal = λ s u. Ok (record { state = s; reply = reply.Made (u ∷ []) }) in
       λ i. answer (state (marks_are i) (tag_is i)) (tag_is i)
 
-true_of : (b : Bool) → T b → b ≡ true
-true_of true h = refl
-true_of false h = absurd h
-
 -- the entities of a map make it again
 pub from_entries-entries : (m : EntityMap) → from_entries (entries m) ≡ m
 from_entries-entries m = same_map tag_total tag_antisymmetric _ m (λ q. get-from_entries tag_total (entries m) q ∙ sym (get-entries m q))
@@ -79,5 +75,5 @@ from_entries-entries m = same_map tag_total tag_antisymmetric _ m (λ q. get-fro
 pub copied : (blocks : List ℕ) (m : EntityMap) (copy : MarkCopy) → copy.entities.items ≡ entries m → ((t : Tag) (e : Entity) → get m t ≡ Some e → IsHosted blocks t e) → IsCopy blocks copy
 copied blocks m copy same hosted =
     let sorted = true_of (is_sorted tag_cmp (entries m)) (entries_sorted m) in
-    let each = ByRecursion-weaker (λ (p : Tag × Entity). find tag_cmp p.0 (entries m) ≡ Some p.1) (λ p. IsHosted blocks p.0 p.1) (λ p f. hosted p.0 p.1 (get-entries m p.0 ∙ f)) (entries m) (each_found (entries m) sorted) in
+    let each = ByRecursion-weaker _ (λ p. IsHosted blocks p.0 p.1) (λ p f. hosted p.0 p.1 f) (entries m) (all_found m) in
     record { sorted = ap (is_sorted tag_cmp) same ∙ sorted; hosted = subst (AllByRecursion (λ p. IsHosted blocks p.0 p.1)) (sym same) each }

@@ -1,14 +1,15 @@
 -- A mark that is found among the copies.
-use Rattle.std.proofs.Common.{◌≡◌, ℕ, true, false, cond, List, [], ◌∷◌, map, find, Option, Some, option_map, Ok, Err, refl, sym, ap, subst, ◌∙◌}
+use Rattle.std.proofs.Common.{◌≡◌, ℕ, true, false, cond, List, [], ◌∷◌, map, find, Option, Some, None, option_map, Result, Ok, Err, refl, sym, ap, subst, ◌∙◌}
 use Rattle.std.specs.List.{AllByRecursion}
 use Rattle.std.proofs.lemmas.Bool.{eqb-true}
 use Rattle.pk_base.specs.Entity.{same_tag}
 use Rattle.pk_base.specs.declared.tag.Tag.{Tag}
-use Rattle.pk_base.specs.declared.refusal.Refusal.TheVariants.{NotOurs, MarkDeleted}
+use Rattle.pk_base.specs.declared.refusal.Refusal.{Refusal}
+use Rattle.pk_base.specs.declared.refusal.Refusal.TheVariants.{NotOurs, MarkDeleted, InitialMark}
 use Rattle.pk_base.specs.Blocks.{tag}
 use Rattle.pk_model.specs.Tags.{owns}
 use Rattle.pk_model.specs.State.{Mark}
-use Rattle.pk_model.specs.Step.{live_mark, mark_among}
+use Rattle.pk_model.specs.Step.{live_mark, mark_among, parent_of}
 use Rattle.partition.specs.MarkCopy.{mark_of}
 use Rattle.partition.specs.declared.marks.MarkCopy.{MarkCopy}
 
@@ -38,3 +39,11 @@ found_among P m (x ∷ xs) k all e =
       | true ↦ λ s f. let same : x ≡ k = cc in (subst P same all.0, ap (λ (y : MarkCopy). y.tag) (sym same) ∙ ap tag (eqb-true x.tag.0 m.0 s))
       | false ↦ λ s f. found_among P m xs k all.1 f
     ] refl e
+
+-- ---- the parent of a mark
+
+pub parent_of-Some : (k : Mark) (p : Tag) → k.parent ≡ Some p → Ok p ≡ parent_of k
+parent_of-Some k p e = ap {B = Result Tag Refusal} (λ (o : Option Tag). elim o as (λ _. Result Tag Refusal) [ None ↦ Err InitialMark | Some q ↦ Ok q ]) (sym e)
+
+pub parent_of-None : (k : Mark) → k.parent ≡ None → Err InitialMark ≡ parent_of k
+parent_of-None k e = ap {B = Result Tag Refusal} (λ (o : Option Tag). elim o as (λ _. Result Tag Refusal) [ None ↦ Err InitialMark | Some q ↦ Ok q ]) (sym e)

@@ -1,17 +1,14 @@
--- How the map of some entities that ascend differs from another: in terms of the lists of entities.
+-- How the maps of entities that ascend differ, in terms of the lists of the entities.
 use Rattle.std.proofs.Common.{◌≡◌, ℕ, ◌+◌, ◌<◌, Bool, true, false, cond, is_none, is_some, not, option_copied, Bor, List, [], ◌∷◌, ◌++◌, map, filter, length, get_or, take, Option, None, Some, T, sym, ap, refl, subst, ◌∙◌, append_assoc}
 use Rattle.std.specs.List.{AllByRecursion}
-use Rattle.std.specs.Ordering.{eq_by_cmp, is_lt}
-use Rattle.std.specs.FinMap.{get, find, is_sorted, entries, from_entries, from_sorted, entries-from_sorted, get-from_sorted, get-from_entries, same_map}
-use Rattle.std.specs.FinMap.Entries.{below_all}
-use Rattle.std.proofs.lemmas.Bool.{and_parts}
+use Rattle.std.specs.FinMap.{find, is_sorted, entries, from_entries, from_sorted, entries-from_sorted, get-from_sorted, get-from_entries, same_map}
 use Rattle.std.proofs.lemmas.List.{take_more, map-append}
 use Rattle.std.proofs.lemmas.List.Elements.{filter-append}
 use Rattle.pk_base.specs.declared.tag.Tag.{Tag}
 use Rattle.pk_base.specs.declared.entity.Entity.{Entity}
-use Rattle.pk_model.specs.Maps.{EntityMap, tag_cmp, differ, fresh_tags, gone_tags, changed_tags}
-use Rattle.pk_model.proofs.TagLists.{tag_total, tag_antisymmetric, ties_itself, ties_no_other}
-use Rattle.partition.proofs.Restored.{not_tied}
+use Rattle.pk_model.specs.Maps.{tag_cmp, differ, gone_tags, changed_tags}
+use Rattle.pk_model.proofs.TagLists.{tag_total, tag_antisymmetric}
+use Rattle.entity_store.proofs.Live.{each_found}
 
 -- ---- one more entity of a list that is gone over
 
@@ -46,54 +43,31 @@ entries-from_ascending to s =
     let same = same_map tag_total tag_antisymmetric (from_entries to) (from_sorted to) (λ q. get-from_entries tag_total to q ∙ sym (get-from_sorted tag_cmp to q sorted)) in
     ap entries same ∙ entries-from_sorted tag_cmp to sorted
 
-later_found : (p : Tag × Entity) (ps rs : List (Tag × Entity)) → below_all tag_cmp p.0 rs ≡ true → AllByRecursion (λ r. find tag_cmp r.0 ps ≡ Some r.1) rs → AllByRecursion (λ r. find tag_cmp r.0 (p ∷ ps) ≡ Some r.1) rs
-later_found p ps [] b h = tt
-later_found p ps (r ∷ rs) b h =
-    let parts = and_parts (is_lt (tag_cmp p.0 r.0)) (below_all tag_cmp p.0 rs) b in
-    let apart : r.0 ≡ p.0 → ⊥ = λ e. cc (not_tied (tag_cmp p.0 r.0) parts.0, ap (λ t. eq_by_cmp tag_cmp p.0 t) e, ties_itself p.0) in
-    (ap (λ b. cond b (Some p.1) (find tag_cmp r.0 ps)) (ties_no_other r.0 p.0 apart) ∙ h.0, later_found p ps rs parts.1 h.1)
-
--- each is found under its tag
-pub each_found : (ps : List (Tag × Entity)) → is_sorted tag_cmp ps ≡ true → AllByRecursion (λ p. find tag_cmp p.0 ps ≡ Some p.1) ps
-each_found [] s = tt
-each_found (p ∷ ps) s =
-    let parts = and_parts (below_all tag_cmp p.0 ps) (is_sorted tag_cmp ps) s in
-    (ap (λ b. cond b (Some p.1) (find tag_cmp p.0 ps)) (ties_itself p.0), later_found p ps ps parts.0 (each_found ps parts.1))
-
 -- ---- the three lists
 
-pub fresh_of : (m : EntityMap) (to : List (Tag × Entity)) → is_sorted tag_cmp to ≡ true → filter (λ t. is_none (get m t)) (map (λ p. p.0) to) ≡ fresh_tags m (from_entries to)
-fresh_of m to s = ap (λ es. filter (λ t. is_none (get m t)) (map (λ p. p.0) es)) (sym (entries-from_ascending to s))
+-- the tags that the others lack: the fresh ones where the others were before, else those that are gone
+pub missing_of : (entities others : List (Tag × Entity)) → is_sorted tag_cmp entities ≡ true → filter (λ t. is_none (find tag_cmp t others)) (map (λ p. p.0) entities) ≡ gone_tags (from_entries entities) (from_entries others)
+missing_of entities others s = λ i. filter (λ t. is_none (sym (get-from_entries tag_total others t) i)) (map (λ p. p.0) (sym (entries-from_ascending entities s) i))
 
-pub gone_of : (m : EntityMap) (from to : List (Tag × Entity)) → from ≡ entries m → filter (λ t. is_none (find tag_cmp t to)) (map (λ p. p.0) from) ≡ gone_tags m (from_entries to)
-gone_of m from to is = λ i. filter (λ t. is_none (sym (get-from_entries tag_total to t) i)) (map (λ p. p.0) (is i))
-
-changed_among : (m : EntityMap) (to ps : List (Tag × Entity)) → AllByRecursion (λ p. find tag_cmp p.0 to ≡ Some p.1) ps → map (λ p. p.0) (filter (λ p. differ (get m p.0) (Some p.1)) ps) ≡ filter (λ t. differ (get m t) (find tag_cmp t to)) (map (λ p. p.0) ps)
-changed_among m to [] h = refl
-changed_among m to (p ∷ ps) h =
-    let left = filter (λ (p : Tag × Entity). differ (get m p.0) (Some p.1)) ps in
-    let right = filter (λ t. differ (get m t) (find tag_cmp t to)) (map (λ (p : Tag × Entity). p.0) ps) in
-    let rest : map (λ (p : Tag × Entity). p.0) left ≡ right = changed_among m to ps h.1 in
-    elim (differ (get m p.0) (Some p.1)) as (λ b. map (λ (p : Tag × Entity). p.0) (cond b (p ∷ left) left) ≡ cond b (p.0 ∷ right) right) [
+changed_among : (from to ps : List (Tag × Entity)) → AllByRecursion (λ p. find tag_cmp p.0 to ≡ Some p.1) ps → map (λ p. p.0) (filter (λ p. differ (find tag_cmp p.0 from) (Some p.1)) ps) ≡ filter (λ t. differ (find tag_cmp t from) (find tag_cmp t to)) (map (λ p. p.0) ps)
+changed_among from to [] h = refl
+changed_among from to (p ∷ ps) h =
+    let before = find tag_cmp p.0 from in
+    let left = filter (λ (p : Tag × Entity). differ (find tag_cmp p.0 from) (Some p.1)) ps in
+    let right = filter (λ t. differ (find tag_cmp t from) (find tag_cmp t to)) (map (λ (p : Tag × Entity). p.0) ps) in
+    let rest : map (λ (p : Tag × Entity). p.0) left ≡ right = changed_among from to ps h.1 in
+    elim (differ before (Some p.1)) as (λ b. map (λ (p : Tag × Entity). p.0) (cond b (p ∷ left) left) ≡ cond b (p.0 ∷ right) right) [
       | true ↦ ap (λ ts. p.0 ∷ ts) rest
       | false ↦ rest
     ]
-    ∙ ap (λ o. cond (differ (get m p.0) o) (p.0 ∷ right) right) (sym h.0)
+    ∙ ap (λ o. cond (differ before o) (p.0 ∷ right) right) (sym h.0)
 
-pub changed_of : (m : EntityMap) (to : List (Tag × Entity)) → is_sorted tag_cmp to ≡ true → map (λ p. p.0) (filter (λ p. differ (get m p.0) (Some p.1)) to) ≡ changed_tags m (from_entries to)
-changed_of m to s =
-    changed_among m to to (each_found to s)
-    ∙ (λ i. filter (λ t. differ (get m t) (sym (get-from_entries tag_total to t) i)) (map (λ p. p.0) (sym (entries-from_ascending to s) i)))
+pub changed_of : (from to : List (Tag × Entity)) → is_sorted tag_cmp to ≡ true → map (λ p. p.0) (filter (λ p. differ (find tag_cmp p.0 from) (Some p.1)) to) ≡ changed_tags (from_entries from) (from_entries to)
+changed_of from to s =
+    changed_among from to to (each_found to s)
+    ∙ (λ i. filter (λ t. differ (sym (get-from_entries tag_total from t) i) (sym (get-from_entries tag_total to t) i)) (map (λ p. p.0) (sym (entries-from_ascending to s) i)))
 
--- ---- what the tests of the loops say
-
-pub missing : (o : Option Entity) → is_some o ≡ false → is_none o ≡ true
-missing None e = refl
-missing (Some x) e = cc
-
-pub present : (o : Option Entity) → is_some o ≡ true → is_none o ≡ false
-present None e = cc
-present (Some x) e = refl
+-- ---- what the test of a loop says
 
 -- what the copy of an option is, by the answer of a test for `None`
 pub absent_by : (o : Option (Bor Entity)) (r : Bool) → is_some o ≡ not r → is_none (option_copied o) ≡ r

@@ -1,7 +1,7 @@
 -- What a binary search finds among entities that ascend by their tags.
-use Rattle.std.proofs.Common.{◌≡◌, ◌≢◌, ℕ, zero, suc, ◌<◌, ◌≤◌, true, false, cond, is_some, is_ok, List, [], ◌∷◌, length, get_or, None, Some, Result, Ok, Err, sym, ap, refl, ◌∙◌, ⊎_elim, arith, add-one}
-use Rattle.std.specs.List.Sorted.{IsBinarySearchResult, IsSearchInRange, IsSortedBy}
-use Rattle.std.specs.Ordering.{eq_by_cmp, is_lt, ordering_reverse}
+use Rattle.std.proofs.Common.{◌≡◌, ◌≢◌, ℕ, zero, suc, ◌<◌, ◌≤◌, true, false, cond, List, [], ◌∷◌, length, get_or, None, Some, Ok, Err, sym, ap, refl, ◌∙◌, ⊎_elim, arith, add-one}
+use Rattle.std.specs.List.Sorted.{IsBinarySearchResult, IsSortedBy}
+use Rattle.std.specs.Ordering.{is_lt, ordering_reverse}
 use Rattle.std.specs.declared.cmp.Ordering.{Ordering}
 use Rattle.std.specs.declared.cmp.Ordering.TheVariants.{Less, Equal, Greater}
 use Rattle.std.specs.FinMap.{find, is_sorted}
@@ -14,17 +14,8 @@ use Rattle.pk_base.specs.declared.entity.Entity.{Entity}
 use Rattle.pk_base.specs.declared.entity.Entity.TheVariants.{Body}
 use Rattle.pk_base.specs.Blocks.{tag}
 use Rattle.pk_model.specs.Maps.{tag_cmp}
-use Rattle.pk_model.proofs.TagLists.{tag_total, tag_antisymmetric, ties_itself, ties_no_other}
-
--- an entity with the tag, at any place
-some_at : (q : Tag) (ps : List (Tag × Entity)) (i : ℕ) (d : Tag × Entity) → i < length ps → q ≡ (get_or ps i d).0 → is_some (find tag_cmp q ps) ≡ true
-some_at q [] i d h e = absurd (omega arith)
-some_at q (p ∷ ps) zero d h e = ap (λ b. is_some (cond b (Some p.1) (find tag_cmp q ps))) (ap (λ t. eq_by_cmp tag_cmp t p.0) e ∙ ties_itself p.0)
-some_at q (p ∷ ps) (suc i) d h e =
-    elim (eq_by_cmp tag_cmp q p.0) as (λ b. is_some (cond b (Some p.1) (find tag_cmp q ps)) ≡ true) [
-      | true ↦ refl
-      | false ↦ some_at q ps i d (omega arith) e
-    ]
+use Rattle.pk_model.proofs.TagLists.{tag_total, tag_antisymmetric, ties_no_other, ByRecursion-get_or}
+use Rattle.entity_store.proofs.Live.{each_found}
 
 -- no entity with the tag, at all places
 none_at : (q : Tag) (ps : List (Tag × Entity)) → ((k : ℕ) (d : Tag × Entity) → k < length ps → q ≢ (get_or ps k d).0) → find tag_cmp q ps ≡ None
@@ -55,15 +46,18 @@ in_order ps s = λ k d _ h. rw add-one (next_above ps k d s (omega arith))
 apart_by : (q t : Tag) (o : Ordering) → o ≢ Equal → tag_cmp t q ≡ o → q ≢ t
 apart_by q t o other is e = other (sym is ∙ ap (λ u. tag_cmp t u) e ∙ tied_itself tag_total t)
 
--- the search answers as the look-up in the list does
-pub found_tag : (ps : List (Tag × Entity)) (q : Tag) (r : Result ℕ ℕ) → is_sorted tag_cmp ps ≡ true → IsSearchInRange r (length ps) → IsBinarySearchResult (λ p. tag_cmp p.0 q) ps r → is_ok r ≡ is_some (find tag_cmp q ps)
-found_tag ps q (Ok i) s within h =
+-- what the search finds is what the list has under the tag
+pub found_at : (ps : List (Tag × Entity)) (q : Tag) (i : ℕ) → is_sorted tag_cmp ps ≡ true → i < length ps → IsBinarySearchResult (λ p. tag_cmp p.0 q) ps (Ok i) → Some (get_or ps i (tag 0, Body (tag 0))).1 ≡ find tag_cmp q ps
+found_at ps q i s within h =
     let d : Tag × Entity = (tag 0, Body (tag 0)) in
-    sym (some_at q ps i d within (sym (tag_antisymmetric (get_or ps i d).0 q (h d))))
-found_tag ps q (Err i) s within h =
+    let here : find tag_cmp (get_or ps i d).0 ps ≡ Some (get_or ps i d).1 = ByRecursion-get_or (λ p. find tag_cmp p.0 ps ≡ Some p.1) ps i d within (each_found ps s) in
+    sym here ∙ ap (λ t. find tag_cmp t ps) (tag_antisymmetric (get_or ps i d).0 q (h d))
+
+-- where the search finds none, the list has none
+pub not_found : (ps : List (Tag × Entity)) (q : Tag) (i : ℕ) → is_sorted tag_cmp ps ≡ true → IsBinarySearchResult (λ p. tag_cmp p.0 q) ps (Err i) → None ≡ find tag_cmp q ps
+not_found ps q i s h =
     let parts = h (searchable_from_sorted tag_total (λ (p : Tag × Entity). p.0) ps q (in_order ps s)) in
-    let apart : (k : ℕ) (d : Tag × Entity) → k < length ps → q ≢ (get_or ps k d).0 = λ k d l.
+    sym (none_at q ps (λ k d l.
     ⊎_elim (λ (low : k < i). apart_by q (get_or ps k d).0 Less (λ e. cc) (parts.0 k d (omega arith) low))
     (λ (high : i ≤ k). apart_by q (get_or ps k d).0 Greater (λ e. cc) (parts.1 k d high l))
-    (cases_lt k i) in
-    sym (ap is_some (none_at q ps apart))
+    (cases_lt k i)))

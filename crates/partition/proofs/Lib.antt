@@ -1,9 +1,11 @@
 pub mod Blocks
-pub mod Sorted
+pub mod Performing
 pub mod Live
 pub mod Restored
 pub mod Found
 pub mod Differs
+pub mod MarkLists
 pub mod Among
 pub mod ActReach
 pub mod Valid
+pub mod Draws

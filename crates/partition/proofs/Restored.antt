@@ -1,9 +1,7 @@
 -- What a map is once the entities that are gone were taken away and others put.
 use Rattle.std.proofs.Common.{◌≡◌, ℕ, ◌+◌, ◌<◌, ◌||◌, Bool, true, false, cond, is_none, is_some, List, [], ◌∷◌, filter, length, get_or, drop, Option, None, Some, sym, ap, refl, subst, ◌∙◌}
 use Rattle.std.specs.List.{AllByRecursion, list_any}
-use Rattle.std.specs.Ordering.{eq_by_cmp, is_lt, is_eq}
-use Rattle.std.specs.declared.cmp.Ordering.{Ordering}
-use Rattle.std.specs.declared.cmp.Ordering.TheVariants.{Less, Equal, Greater}
+use Rattle.std.specs.Ordering.{eq_by_cmp, is_lt}
 use Rattle.std.specs.FinMap.{get, find, is_sorted, insert, remove, keys, from_entries, get-insert, get-remove, get-from_entries, contains_key-keys, same_map}
 use Rattle.std.specs.FinMap.Entries.{below_all}
 use Rattle.std.proofs.lemmas.Bool.{and_parts}
@@ -15,14 +13,9 @@ use Rattle.pk_model.specs.Maps.{EntityMap, tag_cmp, gone_tags}
 use Rattle.pk_model.proofs.TagLists.{tag_total, tag_antisymmetric, ByRecursion-contains, same_from_tie}
 use Rattle.entity_store.specs.Store.{IsHosted}
 use Rattle.partition.specs.Copies.{with_all, without_all}
-use Rattle.partition.proofs.Live.{ties_with_one}
+use Rattle.entity_store.proofs.Live.{not_tied, ties_with_one}
 
 -- ---- what is found among entities that ascend
-
-pub not_tied : (o : Ordering) → is_lt o ≡ true → is_eq o ≡ false
-not_tied Less h = refl
-not_tied Equal h = cc
-not_tied Greater h = cc
 
 pub find_below : (q : Tag) (ps : List (Tag × Entity)) → below_all tag_cmp q ps ≡ true → find tag_cmp q ps ≡ None
 find_below q [] h = refl

@@ -4,4 +4,3 @@ pub mod MarkCopy
 pub mod Contents
 pub mod Copies
 pub mod Goes
-pub mod BodyTags

@@ -1,5 +1,5 @@
 -- What contracts see of a partition, and how an entry changes it.
-use Rattle.std.specs.Prelude.{◌≡◌, ℕ, ◌<◌, List, [], ◌∷◌, ◌++◌, length, Option, Some, IsSome, Result, Ok, Err, unwrap_or, refl}
+use Rattle.std.specs.Prelude.{◌≡◌, ℕ, ◌-◌, ◌<◌, min, List, [], ◌∷◌, ◌++◌, length, Option, Some, IsSome, Result, Ok, Err, unwrap_or, refl}
 use Rattle.std.specs.Coded.{Coded, code_by, coded×, coded_ℕ, coded_list}
 use Rattle.pk_base.specs.contracts.act.Entry as entries
 use Rattle.pk_base.specs.declared.act.Act.{Act}
@@ -10,7 +10,7 @@ use Rattle.pk_base.specs.declared.refusal.Refusal.{Refusal}
 use Rattle.pk_base.specs.declared.refusal.Fault.{Fault}
 use Rattle.pk_base.specs.declared.refusal.Fault.TheVariants.{Refused, NoMemory}
 use Rattle.pk_model.specs.Codes.{state_code}
-use Rattle.pk_model.specs.State.{PartitionState}
+use Rattle.pk_model.specs.State.{PartitionState, opening}
 use Rattle.pk_model.specs.Modelling.{Modelling}
 use Rattle.pk_model.specs.Step.{step}
 use Rattle.pk_model.specs.Replay.{replay}
@@ -19,18 +19,32 @@ pub record PartitionView : Type 0 where
   pub number : ℕ
   pub state : PartitionState
   pub journal : List Entry
+  -- for how many draws of a block there is room
+  pub reserved : ℕ
 
 abbrev pub view_code : Coded PartitionView
 view_code =
-    code_by (ℕ × (PartitionState × List Entry))
-    (coded× coded_ℕ (coded× state_code (coded_list entries.the_row.coded)))
-    (λ v. (v.number, (v.state, v.journal)))
-    (λ p. record { number = p.0; state = p.1.0; journal = p.1.1 }) (λ _. refl)
+    code_by (ℕ × (PartitionState × (List Entry × ℕ)))
+    (coded× coded_ℕ (coded× state_code (coded× (coded_list entries.the_row.coded) coded_ℕ)))
+    (λ v. (v.number, (v.state, (v.journal, v.reserved))))
+    (λ p. record { number = p.0; state = p.1.0; journal = p.1.1.0; reserved = p.1.1.1 })
+    (λ _. refl)
+
+-- The room for draws, where there is room for so many blocks, and for so many entries: one of these
+-- is kept for the release.
+abbrev pub reserved_in : ℕ → ℕ → ℕ
+reserved_in blocks entries = min blocks (entries - 1)
+
+-- partition p at its beginning
+pub record Begins (p : ℕ) (v : PartitionView) : Type 0 where
+  pub number : v.number ≡ p
+  pub state : v.state ≡ opening p
+  pub journal : v.journal ≡ []
 
 abbrev pub holder_of : PartitionView → ℕ
 holder_of v = unwrap_or v.state.holder 0
 
--- nothing of it has changed
+-- nothing of it has changed, but for the room
 pub record Stays (old new : PartitionView) : Type 0 where
   pub number : new.number ≡ old.number
   pub state : new.state ≡ old.state
@@ -58,6 +72,7 @@ answer_of (Err e) = Err (Refused e)
 
 -- The state is the replay of the journal, and while a thread holds the partition there is room for
 -- the entry of its release.
-pub record IsValid (K : Modelling) (v : PartitionView) (capacity : ℕ) : Type 0 where
-  pub replays : replay K v.number v.journal ≡ Some v.state
-  pub room : IsSome v.state.holder → length v.journal < capacity
+pub record IsValid (K : Modelling) (number : ℕ) (state : PartitionState) (journal : List Entry)
+    (capacity : ℕ) : Type 0 where
+  pub replays : replay K number journal ≡ Some state
+  pub room : IsSome state.holder → length journal < capacity

@@ -1,7 +1,7 @@
 ghost use Rattle.std.specs.Prelude.{◌≡◌, ◌≤◌, ◌++◌, IfOk, OnOk};
 ghost use Rattle.std.specs.FinMap.{entries};
 ghost use Rattle.pk_model.specs.Tags.{tags_of_block};
-ghost use Rattle.partition.specs.Copies.{live_of};
+ghost use Rattle.entity_store.specs.Kids.{live_of};
 
 use entity_store::{Steps, Store};
 use pk_base::{Entity, LAST_BLOCK, NoMemory, TAGS_OF_A_BLOCK, Tag};

@@ -3,6 +3,7 @@ ghost use Rattle.std.specs.List.{AllByRecursion};
 ghost use Rattle.partition.specs.MarkCopy.{IsCopy, mark_of};
 ghost use Rattle.partition.specs.Goes.{Goes};
 
+use crate::copies::copy_entities;
 use crate::difference::difference;
 use crate::marks::{MarkCopy, live_mark};
 use crate::restore::restore;
@@ -27,7 +28,8 @@ pub(crate) fn go<L: Ledger>(
         Ok(mark) => mark,
         Err(refusal) => return Ok(Err(refusal)),
     };
-    let lists = difference(alloc, store, &mark.entities, steps)?;
+    let from = copy_entities(alloc, store, steps)?;
+    let lists = difference(alloc, &from, &mark.entities)?;
     restore(store, lists.gone.as_slice(), &mark.entities, steps);
     Ok(Ok(lists))
 }

@@ -12,7 +12,3 @@ mod marks;
 mod partition;
 mod perform;
 mod restore;
-mod tags;
-#[cfg(test)]
-mod tests;
-mod vertex_body;

@@ -1,12 +1,11 @@
 -- What an act of thread 1 in its partition says, and what it keeps.
-use Rattle.std.proofs.Common.{◌≡◌, ℕ, ◌+◌, ◌-◌, ◌≤◌, ◌<◌, ◌==◌, ◌&&◌, Bool, true, false, cond, List, [], ◌∷◌, ◌++◌, length, take, get_or, suc, ℤ, Option, None, Some, unwrap_or, Result, Ok, Err, refl, sym, ap, subst, ◌∙◌, arith}
+use Rattle.std.proofs.Common.{◌≡◌, ℕ, ◌+◌, ◌-◌, ◌≤◌, ◌<◌, ◌==◌, ◌&&◌, Bool, true, false, cond, List, [], ◌∷◌, ◌++◌, length, take, get_or, suc, Option, None, Some, unwrap_or, Result, Ok, Err, refl, sym, ap, subst, ◌∙◌, arith}
 use Rattle.std.proofs.Math.Seq.{take-suc}
 use Rattle.std.proofs.lemmas.List.{append_assoc}
 use Rattle.std.specs.Prelude.{IfOk}
 use Rattle.std.specs.List.{AllByRecursion}
 use Rattle.pk_base.specs.declared.tag.Tag.{Tag}
 use Rattle.pk_base.specs.declared.entity.Name.{Name}
-use Rattle.pk_base.specs.declared.entity.Triple.{Triple}
 use Rattle.pk_base.specs.declared.call.Call.{Call}
 use Rattle.pk_base.specs.declared.act.Act.{Act}
 use Rattle.pk_base.specs.declared.act.Act.TheVariants as act
@@ -19,7 +18,8 @@ use Rattle.pk_model.specs.State.{Mark, PartitionState, holds}
 use Rattle.pk_model.specs.Modelling.{Modelling, Outcome}
 use Rattle.pk_model.specs.Step.{short, step, Stepped, with_answer, reach_of, mark_at}
 use Rattle.pk_model.specs.Tags.{next_tags}
-use Rattle.pk_model.specs.VertexBodies.{vertex_bodies, vertex_step, mvfs_cost, first_outside, place_of, cost_at}
+use Rattle.modeller.specs.Euler.{euler}
+use Rattle.modeller.specs.EulerLaws.{euler-few_tags}
 use Rattle.pk_model.proofs.Steps.{reach_of-call, reach_of-call_refused, reach_of-goto, reach_of-goto_refused}
 use Rattle.pk_model.proofs.TagLists.{ByRecursion-get_or}
 use Rattle.partition.specs.Partition.{PartitionView, Appends, Answers, holder_of}
@@ -54,23 +54,15 @@ pub record Keeps (old new : PartitionState) : Type 0 where
 keeps_same : (s : PartitionState) → Keeps s s
 keeps_same s = record { holder = refl; blocks = refl; used = omega arith }
 
-cost_few : (o : Option ℤ) → mvfs_cost o ≤ 5
-cost_few None = omega arith
-cost_few (Some v) = omega arith
+call_keeps : (s : PartitionState) (c : Call) (r : Result Outcome Refusal) → euler.step s.now c (next_tags s.blocks s.used) ≡ r → Keeps s (with_answer s (reach_of euler s (act.Call c))).state
+call_keeps s c (Ok o) is = let few = euler-few_tags s.now c in subst (λ r. Keeps s (with_answer s r).state) (sym (reach_of-call euler s c o is)) (record { holder = refl; blocks = refl; used = omega (arith, few) })
+call_keeps s c (Err e) is = subst (λ r. Keeps s (with_answer s r).state) (sym (reach_of-call_refused euler s c e is)) (keeps_same s)
 
-place_few : (o : Option Triple) → cost_at o ≤ 5
-place_few None = omega arith
-place_few (Some at) = cost_few (first_outside at)
+goto_keeps : (s : PartitionState) (m : Tag) (r : Result Mark Refusal) → mark_at s m ≡ r → Keeps s (with_answer s (reach_of euler s (act.Goto m))).state
+goto_keeps s m (Ok k) is = subst (λ r. Keeps s (with_answer s r).state) (sym (reach_of-goto euler s m k is)) (record { holder = refl; blocks = refl; used = omega arith })
+goto_keeps s m (Err e) is = subst (λ r. Keeps s (with_answer s r).state) (sym (reach_of-goto_refused euler s m e is)) (keeps_same s)
 
-call_keeps : (s : PartitionState) (c : Call) (r : Result Outcome Refusal) → vertex_step s.now c (next_tags s.blocks s.used) ≡ r → Keeps s (with_answer s (reach_of vertex_bodies s (act.Call c))).state
-call_keeps s c (Ok o) is = let few = place_few (place_of c) in subst (λ r. Keeps s (with_answer s r).state) (sym (reach_of-call vertex_bodies s c o is)) (record { holder = refl; blocks = refl; used = omega (arith, few) })
-call_keeps s c (Err e) is = subst (λ r. Keeps s (with_answer s r).state) (sym (reach_of-call_refused vertex_bodies s c e is)) (keeps_same s)
-
-goto_keeps : (s : PartitionState) (m : Tag) (r : Result Mark Refusal) → mark_at s m ≡ r → Keeps s (with_answer s (reach_of vertex_bodies s (act.Goto m))).state
-goto_keeps s m (Ok k) is = subst (λ r. Keeps s (with_answer s r).state) (sym (reach_of-goto vertex_bodies s m k is)) (record { holder = refl; blocks = refl; used = omega arith })
-goto_keeps s m (Err e) is = subst (λ r. Keeps s (with_answer s r).state) (sym (reach_of-goto_refused vertex_bodies s m e is)) (keeps_same s)
-
-answered_keeps : (s : PartitionState) (a : Act) → is_built a ≡ true → Keeps s (with_answer s (reach_of vertex_bodies s a)).state
+answered_keeps : (s : PartitionState) (a : Act) → is_built a ≡ true → Keeps s (with_answer s (reach_of euler s a)).state
 answered_keeps s (act.Call c) b = call_keeps s c _ refl
 answered_keeps s act.Mark b = record { holder = refl; blocks = refl; used = omega arith }
 answered_keeps s (act.Goto m) b = goto_keeps s m _ refl
@@ -78,13 +70,13 @@ answered_keeps s (act.Unmark m) b = absurd (cc)
 answered_keeps s act.Marks b = absurd (cc)
 answered_keeps s (act.Delta m) b = absurd (cc)
 
-did_by : (s : PartitionState) (a : Act) (defined : Bool) (r : Stepped) → is_built a ≡ true → cond defined (Some (with_answer s (reach_of vertex_bodies s a))) None ≡ Some r → Keeps s r.state
+did_by : (s : PartitionState) (a : Act) (defined : Bool) (r : Stepped) → is_built a ≡ true → cond defined (Some (with_answer s (reach_of euler s a))) None ≡ Some r → Keeps s r.state
 did_by s a false r b h = absurd (cc)
-did_by s a true r b h = let e : with_answer s (reach_of vertex_bodies s a) ≡ r = cc in subst (λ (x : Stepped). Keeps s x.state) e (answered_keeps s a b)
+did_by s a true r b h = let e : with_answer s (reach_of euler s a) ≡ r = cc in subst (λ (x : Stepped). Keeps s x.state) e (answered_keeps s a b)
 
 -- an act that is built keeps the holder and the blocks
-pub did_keeps : (s : PartitionState) (a : Act) (r : Stepped) → is_built a ≡ true → step vertex_bodies s (Did 1 a) ≡ Some r → Keeps s r.state
-did_keeps s a r b h = did_by s a (holds s 1 && (short vertex_bodies s a == 0)) r b h
+pub did_keeps : (s : PartitionState) (a : Act) (r : Stepped) → is_built a ≡ true → step euler s (Did 1 a) ≡ Some r → Keeps s r.state
+did_keeps s a r b h = did_by s a (holds s 1 && (short euler s a == 0)) r b h
 
 -- ---- lines that are done
 
@@ -100,7 +92,7 @@ does_push K old mid new [] (y ∷ ms) l m a n is h t = elim h [ ]
 does_push K old mid new (x ∷ ls) [] l m a n is h t = elim h [ ]
 
 -- an act that was told leaves the holder, and room for the rest
-pub tells_keeps : (old new : PartitionView) (a : Act) (said : LineSaid) → is_built a ≡ true → Tells vertex_bodies old a said new → Keeps old.state new.state
+pub tells_keeps : (old new : PartitionView) (a : Act) (said : LineSaid) → is_built a ≡ true → Tells euler old a said new → Keeps old.state new.state
 tells_keeps old new a said b t = did_keeps old.state a _ b t.1.0.steps
 
 pub room_left : (old new : PartitionState) (n k : ℕ) → Keeps old new → k < n → HasRoom old (n - k) → HasRoom new (n - (k + 1))

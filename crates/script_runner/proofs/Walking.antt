@@ -17,12 +17,12 @@ use Rattle.pk_base.specs.declared.refusal.Refusal.{Refusal}
 use Rattle.pk_model.specs.State.{PartitionState, opening, holds}
 use Rattle.pk_model.specs.Step.{step, Stepped, without_answer}
 use Rattle.pk_model.specs.Replay.{replay, replay_from, AnsweredEntry, answered_entries_from, thread_of, drawn_block, spent_number}
-use Rattle.pk_model.specs.VertexBodies.{vertex_bodies}
+use Rattle.modeller.specs.Euler.{euler}
 use Rattle.pk_model.proofs.Replays.{replay_from-step, replay_from-append, answered_entries_from-step, told_of}
 use Rattle.pk_model.proofs.TagLists.{ByRecursion-append}
 use Rattle.pk_command.specs.Operands.{act_on, operands_of}
 use Rattle.pk_command.proofs.Operands.{act_on-own}
-use Rattle.partition.specs.Partition.{PartitionView, Appends}
+use Rattle.partition.specs.Partition.{PartitionView, Appends, Begins}
 use Rattle.script_text.specs.Form.{act_line, end_line, lock_line}
 use Rattle.script_text.specs.LegalReport.{LegalJournals}
 use Rattle.script_runner.specs.OneThread.{Does, IsRunOf}
@@ -43,11 +43,11 @@ holding left = record { held = 1 ∷ []; names = []; left = left ∷ [] }
 
 -- the lines are walked, and told these
 abbrev pub WalksTo : Walker → List ScriptLine → List Line → Walker → Type 0
-WalksTo w lines said after = Walks vertex_bodies 1 1 w lines said after
+WalksTo w lines said after = Walks euler 1 1 w lines said after
 
 -- one line is told this
 abbrev pub Says : Walker → ScriptLine → LineSaid → Walker → Type 0
-Says w line said after = OrderSays vertex_bodies 1 1 w line.order said after
+Says w line said after = OrderSays euler 1 1 w line.order said after
 
 -- ---- one line
 
@@ -55,7 +55,7 @@ Says w line said after = OrderSays vertex_bodies 1 1 w line.order said after
 abbrev pub did : PartitionState → Act → Result Reply Refusal → AnsweredEntry
 did s a answer = record { entry = Did 1 a; before = s; answer = Some answer }
 
-act_says : (s : PartitionState) (a : Act) (answer : Result Reply Refusal) (rest : List AnsweredEntry) → ActSays vertex_bodies 1 (holding (did s a answer ∷ rest)) 1 a None (said_of answer) (holding rest)
+act_says : (s : PartitionState) (a : Act) (answer : Result Reply Refusal) (rest : List AnsweredEntry) → ActSays euler 1 (holding (did s a answer ∷ rest)) 1 a None (said_of answer) (holding rest)
 act_says s a answer rest = record { answer = answer; rest = rest; taken = (refl, (refl, refl)); tells = refl; goes_on = refl }
 
 -- digits name themselves
@@ -71,9 +71,9 @@ line_says : (s : PartitionState) (k : ℕ) (a : Act) (answer : Result Reply Refu
 line_says s k a answer rest =
     let w = holding (did s a answer ∷ rest) in
     let operands = map Digits (operands_of a) in
-    let says = ActSays vertex_bodies 1 w 1 in
+    let says = ActSays euler 1 w 1 in
     let none : refusal_of_order 1 w (On 1 a operands None) ≡ None = ap (λ r. refusal_of_operands r or_else None) (digits_named [] 1 (operands_of a)) in
-    subst (λ o. MatchOption o (OrderTakes vertex_bodies 1 w (On 1 a operands None) (said_of answer) (holding rest)) (λ r. IsTurnedAway w r (said_of answer) (holding rest))) (sym none)
+    subst (λ o. MatchOption o (OrderTakes euler 1 w (On 1 a operands None) (said_of answer) (holding rest)) (λ r. IsTurnedAway w r (said_of answer) (holding rest))) (sym none)
     (subst (λ b. says b None (said_of answer) (holding rest)) (sym (resolves_to_itself w a)) (act_says s a answer rest))
 
 -- ---- the acts
@@ -88,17 +88,17 @@ record IsOwnQuiet (e : Entry) : Type 0 where
 record Walked (old new : PartitionView) (lines : List ScriptLine) (more : List Line) : Type 0 where
   entries : List Entry
   journal : new.journal ≡ old.journal ++ entries
-  replays : replay_from vertex_bodies old.state entries ≡ Some new.state
+  replays : replay_from euler old.state entries ≡ Some new.state
   quiet : AllByRecursion IsOwnQuiet entries
-  walks : (tail : List Entry) (ls : List ScriptLine) (ms : List Line) (after : Walker) → WalksTo (holding (answered_entries_from vertex_bodies new.state tail)) ls ms after → WalksTo (holding (answered_entries_from vertex_bodies old.state (entries ++ tail))) (lines ++ ls) (more ++ ms) after
+  walks : (tail : List Entry) (ls : List ScriptLine) (ms : List Line) (after : Walker) → WalksTo (holding (answered_entries_from euler new.state tail)) ls ms after → WalksTo (holding (answered_entries_from euler old.state (entries ++ tail))) (lines ++ ls) (more ++ ms) after
 
-does_walk : (old new : PartitionView) (lines : List ScriptLine) (more : List Line) → Does vertex_bodies old lines more new → Walked old new lines more
+does_walk : (old new : PartitionView) (lines : List ScriptLine) (more : List Line) → Does euler old lines more new → Walked old new lines more
 does_walk old new [] [] h = record {
   entries = [];
   journal = ap (λ (v : PartitionView). v.journal) h ∙ sym (append-nil old.journal);
   replays = ap (λ (v : PartitionView). Some v.state) (sym h);
   quiet = tt;
-  walks = λ tail ls ms after w. subst (λ (v : PartitionView). WalksTo (holding (answered_entries_from vertex_bodies v.state tail)) ls ms after) h w;
+  walks = λ tail ls ms after w. subst (λ (v : PartitionView). WalksTo (holding (answered_entries_from euler v.state tail)) ls ms after) h w;
 }
 does_walk old new (l ∷ lines) (m ∷ more) h =
     let a = h.1.0 in
@@ -115,11 +115,11 @@ does_walk old new (l ∷ lines) (m ∷ more) h =
     record {
       entries = Did 1 a ∷ w.entries;
       journal = w.journal ∙ ap (λ j. j ++ w.entries) appends.journal ∙ append_assoc old.journal (Did 1 a ∷ []) w.entries;
-      replays = replay_from-step vertex_bodies old.state (Did 1 a) w.entries r appends.steps ∙ w.replays;
+      replays = replay_from-step euler old.state (Did 1 a) w.entries r appends.steps ∙ w.replays;
       quiet = (record { thread = refl; drawn = refl; spent = refl }, w.quiet);
       walks = λ tail ls ms after x.
-          subst (λ left. WalksTo (holding left) (l ∷ lines ++ ls) (m ∷ more ++ ms) after) (sym (answered_entries_from-step vertex_bodies old.state (Did 1 a) (w.entries ++ tail) r appends.steps))
-          (h.0, (holding (answered_entries_from vertex_bodies mid.state (w.entries ++ tail)), (line _, w.walks tail ls ms after x)));
+          subst (λ left. WalksTo (holding left) (l ∷ lines ++ ls) (m ∷ more ++ ms) after) (sym (answered_entries_from-step euler old.state (Did 1 a) (w.entries ++ tail) r appends.steps))
+          (h.0, (holding (answered_entries_from euler mid.state (w.entries ++ tail)), (line _, w.walks tail ls ms after x)));
     }
 does_walk old new [] (m ∷ more) h = elim h [ ]
 does_walk old new (l ∷ lines) [] h = elim h [ ]
@@ -129,18 +129,18 @@ does_walk old new (l ∷ lines) [] h = elim h [ ]
 abbrev pub own : List AnsweredEntry → List AnsweredEntry
 own xs = filter (λ x. thread_of x.entry == 1) xs
 
-own_told_by : (s : PartitionState) (e : Entry) (es : List Entry) → thread_of e ≡ 1 → ((t : PartitionState) → own (answered_entries_from vertex_bodies t es) ≡ answered_entries_from vertex_bodies t es) → (o : Option Stepped) → step vertex_bodies s e ≡ o → own (answered_entries_from vertex_bodies s (e ∷ es)) ≡ answered_entries_from vertex_bodies s (e ∷ es)
-own_told_by s e es one more None is = let none = ap (λ o. option_map_or (λ (q : Stepped). told_of s e q ∷ answered_entries_from vertex_bodies q.state es) o []) is in ap own none ∙ sym none
+own_told_by : (s : PartitionState) (e : Entry) (es : List Entry) → thread_of e ≡ 1 → ((t : PartitionState) → own (answered_entries_from euler t es) ≡ answered_entries_from euler t es) → (o : Option Stepped) → step euler s e ≡ o → own (answered_entries_from euler s (e ∷ es)) ≡ answered_entries_from euler s (e ∷ es)
+own_told_by s e es one more None is = let none = ap (λ o. option_map_or (λ (q : Stepped). told_of s e q ∷ answered_entries_from euler q.state es) o []) is in ap own none ∙ sym none
 own_told_by s e es one more (Some r) is =
-    let first = answered_entries_from-step vertex_bodies s e es r is in
-    let rest = answered_entries_from vertex_bodies r.state es in
+    let first = answered_entries_from-step euler s e es r is in
+    let rest = answered_entries_from euler r.state es in
     ap own first
     ∙ ap (λ b. cond b (told_of s e r ∷ own rest) (own rest)) (eq-eqb (thread_of e) 1 one)
     ∙ ap (λ xs. told_of s e r ∷ xs) (more r.state)
     ∙ sym first
 
 -- the entries of thread 1 are all of them
-own_told : (s : PartitionState) (es : List Entry) → AllByRecursion IsOwnQuiet es → own (answered_entries_from vertex_bodies s es) ≡ answered_entries_from vertex_bodies s es
+own_told : (s : PartitionState) (es : List Entry) → AllByRecursion IsOwnQuiet es → own (answered_entries_from euler s es) ≡ answered_entries_from euler s es
 own_told s [] h = refl
 own_told s (e ∷ es) h = own_told_by s e es h.0.thread (λ t. own_told t es h.1) _ refl
 
@@ -173,7 +173,7 @@ free_by : (s : PartitionState) (b : Bool) (end : PartitionState) → cond b (wit
 free_by s false end h = absurd (cc)
 free_by s true end h = sym (ap (λ o. option_map_or (λ (r : Stepped). r.state.holder) o None) h)
 
-legal_run : (journal : List Entry) (end : PartitionState) → replay vertex_bodies 1 journal ≡ Some end → end.holder ≡ None → AllByRecursion IsOwnQuiet journal → LegalJournals vertex_bodies 1 1 1 (journal ∷ [])
+legal_run : (journal : List Entry) (end : PartitionState) → replay euler 1 journal ≡ Some end → end.holder ≡ None → AllByRecursion IsOwnQuiet journal → LegalJournals euler 1 1 1 (journal ∷ [])
 legal_run journal end replays free quiet =
     let drawn = none_drawn journal quiet in
     let spent = none_spent journal quiet in
@@ -211,15 +211,18 @@ all_said none one some all more first last n o s a = a ∙ ap (λ ls. ls ++ last
 pub told_lines : (first last : ℕ) (more : List Line) (parts : List ℕ) → parts ≡ 1 ∷ [] → locked first ∷ more ++ record { number = last; said = Ended parts } ∷ [] ≡ locked first ∷ more ++ ended last ∷ []
 told_lines first last more parts is = ap (λ (p : List ℕ). locked first ∷ more ++ record { number = last; said = Ended p } ∷ []) is
 
--- a partition at its beginning
-abbrev pub begun : PartitionView
-begun = record { number = 1; state = opening 1; journal = [] }
+-- the partition at its beginning, with this room
+abbrev pub begun : ℕ → PartitionView
+begun room = record { number = 1; state = opening 1; journal = []; reserved = room }
+
+pub begun_is : (v : PartitionView) → Begins 1 v → v ≡ begun v.reserved
+begun_is v b = λ i. record { number = b.number i; state = b.state i; journal = b.journal i; reserved = v.reserved }
 
 -- The partition is claimed, its lines are done, and it is released; this is what the lines say of it.
-pub run_of : (claimed done released : PartitionView) (first last : ℕ) (acts : List ScriptLine) (more : List Line) →
-    Appends vertex_bodies begun (Claimed 1) None claimed → Does vertex_bodies claimed acts more done → Appends vertex_bodies done (Released 1) None released →
-    IsRunOf vertex_bodies (lock_line first ∷ acts ++ end_line last ∷ []) released.journal (locked first ∷ more ++ ended last ∷ [])
-run_of claimed done released first last acts more c d r =
+pub run_of : (room : ℕ) (claimed done released : PartitionView) (first last : ℕ) (acts : List ScriptLine) (more : List Line) →
+    Appends euler (begun room) (Claimed 1) None claimed → Does euler claimed acts more done → Appends euler done (Released 1) None released →
+    IsRunOf euler (lock_line first ∷ acts ++ end_line last ∷ []) released.journal (locked first ∷ more ++ ended last ∷ [])
+run_of room claimed done released first last acts more c d r =
     let w = does_walk claimed done acts more d in
     let s = opening 1 in
     let whole = Claimed 1 ∷ w.entries ++ Released 1 ∷ [] in
@@ -227,19 +230,19 @@ run_of claimed done released first last acts more c d r =
     let releases : Stepped = record { state = released.state; answer = None } in
     let journal : released.journal ≡ whole = r.journal ∙ ap (λ j. j ++ Released 1 ∷ []) (w.journal ∙ ap (λ j. j ++ w.entries) c.journal) in
     let quiet : AllByRecursion IsOwnQuiet whole = (record { thread = refl; drawn = refl; spent = refl }, ByRecursion-append IsOwnQuiet w.entries (Released 1 ∷ []) w.quiet (record { thread = refl; drawn = refl; spent = refl }, tt)) in
-    let replays : replay vertex_bodies 1 whole ≡ Some released.state =
-    replay_from-step vertex_bodies s (Claimed 1) (w.entries ++ Released 1 ∷ []) claims c.steps
-    ∙ replay_from-append vertex_bodies claimed.state w.entries (Released 1 ∷ []) done.state w.replays
-    ∙ replay_from-step vertex_bodies done.state (Released 1) [] releases r.steps in
+    let replays : replay euler 1 whole ≡ Some released.state =
+    replay_from-step euler s (Claimed 1) (w.entries ++ Released 1 ∷ []) claims c.steps
+    ∙ replay_from-append euler claimed.state w.entries (Released 1 ∷ []) done.state w.replays
+    ∙ replay_from-step euler done.state (Released 1) [] releases r.steps in
     let lines = lock_line first ∷ acts ++ end_line last ∷ [] in
     let said = locked first ∷ more ++ ended last ∷ [] in
-    let ends : WalksTo (holding (answered_entries_from vertex_bodies done.state (Released 1 ∷ []))) (end_line last ∷ []) (ended last ∷ []) (before_lock []) =
-    subst (λ left. WalksTo (holding left) (end_line last ∷ []) (ended last ∷ []) (before_lock [])) (sym (answered_entries_from-step vertex_bodies done.state (Released 1) [] releases r.steps))
+    let ends : WalksTo (holding (answered_entries_from euler done.state (Released 1 ∷ []))) (end_line last ∷ []) (ended last ∷ []) (before_lock []) =
+    subst (λ left. WalksTo (holding left) (end_line last ∷ []) (ended last ∷ []) (before_lock [])) (sym (answered_entries_from-step euler done.state (Released 1) [] releases r.steps))
     (refl, (before_lock [], (end_says done.state last, refl))) in
-    let walked : WalksTo (before_lock (answered_entries_from vertex_bodies s whole)) lines said (before_lock []) =
-    subst (λ left. WalksTo (before_lock left) lines said (before_lock [])) (sym (answered_entries_from-step vertex_bodies s (Claimed 1) (w.entries ++ Released 1 ∷ []) claims c.steps))
+    let walked : WalksTo (before_lock (answered_entries_from euler s whole)) lines said (before_lock []) =
+    subst (λ left. WalksTo (before_lock left) lines said (before_lock [])) (sym (answered_entries_from-step euler s (Claimed 1) (w.entries ++ Released 1 ∷ []) claims c.steps))
     (refl, (holding _, (lock_says s first _, w.walks (Released 1 ∷ []) (end_line last ∷ []) (ended last ∷ []) (before_lock []) ends))) in
-    subst (λ j. IsRunOf vertex_bodies lines j said) (sym journal) (record {
+    subst (λ j. IsRunOf euler lines j said) (sym journal) (record {
       journals = legal_run whole released.state replays (free_by done.state (holds done.state 1) released.state r.steps) quiet;
       transcript = record {
         after = before_lock [];

@@ -1,19 +1,19 @@
 -- Which scripts are carried out today.
-use Rattle.std.specs.Prelude.{◌≡◌, ℕ, ◌≤◌, Bool, true, false, if◌then◌else◌, List, [], ◌∷◌, ◌++◌, length, Option, None, Some, is_some}
+use Rattle.std.specs.Prelude.{◌≡◌, ℕ, ◌≤◌, Bool, true, false, if◌then◌else◌, List, [], ◌∷◌, ◌++◌, length, Option, None, Some}
 use Rattle.std.specs.Option.{option_or}
 use Rattle.std.specs.List.{AllByRecursion}
 use Rattle.pk_base.specs.declared.act.Act.{Act}
 use Rattle.pk_base.specs.declared.act.Act.TheVariants as act
-use Rattle.pk_model.specs.VertexBodies.{place_of}
+use Rattle.modeller.specs.Euler.{is_done}
 use Rattle.script_text.specs.Form.{act_line, end_line, lock_line, script_of_thread}
 use Rattle.script_text.specs.declared.script.Script.{Script}
 use Rattle.script_text.specs.declared.script.ScriptLine.{ScriptLine}
 use Rattle.script_text.specs.declared.script.Order.{Order}
 use Rattle.script_text.specs.declared.script.Order.TheVariants.{Lock, Unlock, End, On}
 
--- an act that is carried out: a call that makes a vertex body, a mark, or a goto
+-- an act that is carried out: a call that the modeller does, a mark, or a goto
 abbrev pub is_built : Act → Bool
-is_built (act.Call c) = is_some (place_of c)
+is_built (act.Call c) = is_done c
 is_built act.Mark = true
 is_built (act.Goto m) = true
 is_built (act.Unmark m) = false

@@ -1,6 +1,6 @@
 ghost use Rattle.std.specs.Prelude.{◌≡◌, ℕ, ◌+◌, ◌*◌, ◌<◌, ◌≤◌, [], ◌∷◌, ◌++◌, length, true, Some, IfOk, OnOk};
 ghost use Rattle.std.specs.List.{AllByRecursion};
-ghost use Rattle.pk_model.specs.VertexBodies.{vertex_bodies};
+ghost use Rattle.modeller.specs.Euler.{euler};
 ghost use Rattle.partition.specs.Partition.{Answers};
 ghost use Rattle.script_text.specs.Form.{end_line, lock_line, script_of_thread};
 ghost use Rattle.script_text.specs.LegalReport.{LegalReport};
@@ -9,6 +9,7 @@ ghost use Rattle.script_runner.specs.Headline.{IsLawful};
 ghost use Rattle.script_runner.specs.OneThread.{Does, HasRoom, IsRunOf, SaysOf, Tells, report_of_one};
 
 use entity_store::Steps;
+use modeller::Euler;
 use partition::Partition;
 use pk_base::{Act, Entry, Fault, Items, NoMemory, Reply};
 use script_text::{
@@ -21,8 +22,8 @@ use std::sync::ledger::{Blank, Ledger};
 /// Carries out a script of one thread in one partition.
 pub(crate) fn execute(alloc: Global, script: &Script) -> Result<Report, NoMemory>
     requires { HasForm script.now }
-    ensures lawful { IfOk result (IsLawful vertex_bodies) }
-    ensures legal { IfOk result (LegalReport vertex_bodies script.now) }
+    ensures lawful { IfOk result (IsLawful euler) }
+    ensures legal { IfOk result (LegalReport euler script.now) }
 {
     let (journal, said) = run_thread::<Brand>(alloc, the_thread(script), Blank::new(1))?;
     report_with(alloc, journal, said)
@@ -64,7 +65,7 @@ fn run_thread<L: Ledger>(
     requires name { blank.name ≡ L.name }
     requires parts { blank.parts ≡ L.parts }
     requires some { 0 < blank.parts }
-    ensures { IfOk result (λ r. IsRunOf vertex_bodies lines.now r.0.items r.1.items) }
+    ensures { IfOk result (λ r. IsRunOf euler lines.now r.0.items r.1.items) }
 {
     let mut steps = Steps::<L>::new(blank);
     let (first, acts, last) = parts_of(lines);
@@ -94,11 +95,11 @@ fn run_acts<L: Ledger>(
 ) -> Result<(Vec<Entry>, Vec<Line>), NoMemory>
     requires few { length acts.now ≤ 12 }
     requires each { AllByRecursion IsActLine acts.now }
-    ensures { IfOk result (λ r. IsRunOf vertex_bodies
+    ensures { IfOk result (λ r. IsRunOf euler
         (lock_line first ∷ acts.now ++ end_line last ∷ [])
         r.0.items r.1.items) }
 {
-    let mut partition = Partition::begin(alloc, 1)?;
+    let mut partition = Partition::begin(alloc, 1, Euler)?;
     let mut said = Vec::new(alloc);
     partition.claim(1)?;
     said.push(Line {
@@ -126,7 +127,7 @@ fn the_one_part(alloc: Global) -> Result<PartList, NoMemory>
 /// Does the acts of these lines, and adds what was said to each.
 fn do_acts<L: Ledger>(
     alloc: Global,
-    partition: &mut Partition,
+    partition: &mut Partition<Euler>,
     acts: &[ScriptLine],
     said: &mut Vec<Line>,
     steps: &mut Steps<L>,
@@ -135,7 +136,7 @@ fn do_acts<L: Ledger>(
     requires held { partition.old.state.holder ≡ Some 1 }
     requires room { HasRoom partition.old.state (length acts.now) }
     ensures does { OnOk result ((more : _) × (said.new.items ≡ said.old.items ++ more)
-        × Does vertex_bodies partition.old acts.now more partition.new) }
+        × Does euler partition.old acts.now more partition.new) }
     ensures held { OnOk result (partition.new.state.holder ≡ Some 1) }
 {
     for line in acts {
@@ -154,14 +155,14 @@ fn do_acts<L: Ledger>(
 /// Does an act, and says its reply or its refusal.
 fn answer_to<L: Ledger>(
     alloc: Global,
-    partition: &mut Partition,
+    partition: &mut Partition<Euler>,
     act: &Act,
     steps: &mut Steps<L>,
 ) -> Result<LineSaid, NoMemory>
     requires built { is_built act.now ≡ true }
     requires held { partition.old.state.holder ≡ Some 1 }
     requires room { HasRoom partition.old.state 1 }
-    ensures { IfOk result (λ said. Tells vertex_bodies partition.old act.now said partition.new) }
+    ensures { IfOk result (λ said. Tells euler partition.old act.now said partition.new) }
 {
     said_of(do_act(alloc, partition, act, steps))
 }
@@ -169,14 +170,14 @@ fn answer_to<L: Ledger>(
 /// Does an act.
 fn do_act<L: Ledger>(
     alloc: Global,
-    partition: &mut Partition,
+    partition: &mut Partition<Euler>,
     act: &Act,
     steps: &mut Steps<L>,
 ) -> Result<Reply, Fault>
     requires built { is_built act.now ≡ true }
     requires held { partition.old.state.holder ≡ Some 1 }
     requires room { HasRoom partition.old.state 1 }
-    ensures { Answers vertex_bodies partition.old act.now result partition.new }
+    ensures { Answers euler partition.old act.now result partition.new }
 {
     match act {
         Act::Call(call) => partition.call(call.copy(alloc)?, steps),

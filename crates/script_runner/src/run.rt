@@ -1,6 +1,6 @@
 ghost use Rattle.std.specs.Prelude.{◌≡◌, ℕ, ◌+◌, ◌≤◌, ◌⊎◌, ◌↔◌, [], ◌∷◌, length, map, take, codes, string_bytes, option_map, IfOk, IfErr, IsTrue, None, Some};
 ghost use Rattle.std.specs.List.{list_any};
-ghost use Rattle.pk_model.specs.VertexBodies.{place_of as the_place_of, vertex_bodies};
+ghost use Rattle.modeller.specs.Euler.{euler};
 ghost use Rattle.pk_outside.specs.Outside.{Grows, HasFailed};
 ghost use Rattle.script_text.specs.Form.{script_of};
 ghost use Rattle.script_text.specs.Text.{text_of};
@@ -78,7 +78,7 @@ pub fn run_serial<S: Source, K: Sink>(
     // What was read of the source; the report, which is the headline; what was written to the sink;
     // and the cause of each status. `specs/Headline.antt` has the parts of each, by name.
     ensures read { WasRead S.left S.calls S.faults source.old source.new result.status }
-    ensures report { IsReported vertex_bodies (S.left source.old) result.status result.report }
+    ensures report { IsReported euler (S.left source.old) result.status result.report }
     ensures written { WasWritten K.held K.calls K.faults sink.old sink.new result.status
         result.report }
     ensures cause { HasCause (map string_bytes words.now ≡ codes "--serial" ∷ [])
@@ -130,8 +130,8 @@ fn ended_by(no: ReadNo) -> Status
 /// The report of the script that the bytes are, and its text. Where they are none, or a line of it
 /// is not carried out yet, the line is refused.
 fn report_of(alloc: Global, bytes: &[u8]) -> Result<(Report, Text), ScriptNo>
-    ensures lawful { IfOk result (λ r. IsLawful vertex_bodies r.0) }
-    ensures legal { IfOk result (λ r. IsReportOf vertex_bodies bytes.now r.0) }
+    ensures lawful { IfOk result (λ r. IsLawful euler r.0) }
+    ensures legal { IfOk result (λ r. IsReportOf euler bytes.now r.0) }
     ensures text { IfOk result (λ r. r.1 ≡ text_of r.0) }
     ensures judged { JudgesAs bytes.now result }
 {

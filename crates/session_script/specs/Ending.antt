@@ -1,6 +1,6 @@
 -- What a run of the program did, as its words, its source and its sink tell.
 use Rattle.std.specs.Prelude.{◌≡◌, ℕ, ◌⊎◌, List, [], ◌∷◌, codes, Option}
-use Rattle.pk_model.specs.VertexBodies.{vertex_bodies}
+use Rattle.modeller.specs.Euler.{euler}
 use Rattle.script_runner.specs.Headline.{HasCause, IsReported, WasRead, WasWritten}
 use Rattle.script_runner.specs.Statuses.{number_of_status}
 use Rattle.script_runner.specs.declared.run.Outcome.{Outcome}
@@ -14,7 +14,7 @@ pub record IsRun {A B : Type 0}
     (held : B → Option (List ℕ)) (writes write_faults : B → ℕ)
     (words : List (List ℕ)) (a a' : A) (b b' : B) (o : Outcome) : Type 0 where
   pub read : WasRead left reads read_faults a a' o.status
-  pub report : IsReported vertex_bodies (left a) o.status o.report
+  pub report : IsReported euler (left a) o.status o.report
   pub written : WasWritten held writes write_faults b b' o.status o.report
   pub cause :
       HasCause (words ≡ codes "--serial" ∷ []) (left a)

@@ -14,4 +14,3 @@ pub mod Turning
 pub mod Opened
 pub mod Closed
 pub mod Emptied
-pub mod Visiting

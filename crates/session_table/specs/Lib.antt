@@ -10,4 +10,3 @@ pub mod Turns
 pub mod Faces
 pub mod Calls
 pub mod Ends
-pub mod Visits

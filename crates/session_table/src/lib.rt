@@ -13,8 +13,6 @@ mod rule;
 mod seat;
 mod seats;
 mod table;
-#[cfg(test)]
-mod tests;
 mod view;
 
 pub use claims::Claim;

@@ -1,6 +1,6 @@
 use Rattle.std.proofs.Common.{◌≡◌, ◌++◌, take}
 use Rattle.pk_model.specs.Tags.{tags_of_block}
-use Rattle.partition.specs.Copies.{live_of}
+use Rattle.entity_store.specs.Kids.{live_of}
 use Rattle.partition.proofs.copies.copy_block.Given as goal
 
 abbrev pub invariant-loop-place : goal.invariant-loop-place

@@ -1,17 +1,18 @@
-use Rattle.std.proofs.Common.{◌++◌, ap, ◌∙◌, filter, map, is_none, Some}
-use Rattle.std.specs.FinMap.{get, find}
+use Rattle.std.proofs.Common.{List, ◌++◌, ap, ◌∙◌, filter, map, is_none, Some}
+use Rattle.std.specs.FinMap.{find}
 use Rattle.pk_base.specs.declared.tag.Tag.{Tag}
 use Rattle.pk_base.specs.declared.entity.Entity.{Entity}
 use Rattle.pk_model.specs.Maps.{diff, differ, tag_cmp}
-use Rattle.partition.proofs.Differs.{fresh_of, gone_of, changed_of}
+use Rattle.partition.proofs.Differs.{missing_of, changed_of}
 use Rattle.partition.proofs.difference.difference.Goals as goal
 
 pub returns : goal.returns
 unfolding diff
-returns g c =
-    let m = c.args.store.now.state.map in
+returns c =
+    let from = c.args.from.now in
     let to = c.args.to.now in
-    let fresh = c.list_fresh.ensures ∙ ap (λ ts. ts ++ filter (λ t. is_none (get m t)) (map (λ (p : Tag × Entity). p.0) to)) c.in_ok-fresh.ensures.empty ∙ fresh_of m to c.requires in
-    let gone = c.list_gone.ensures ∙ ap (λ ts. ts ++ filter (λ t. is_none (find tag_cmp t to)) (map (λ (p : Tag × Entity). p.0) c.deref.result.now)) c.in_ok-gone.ensures.empty ∙ gone_of m c.deref.result.now to (c.deref.ensures.value ∙ c.in_ok-from.ensures) in
-    let changed = c.list_changed.ensures ∙ ap (λ ts. ts ++ map (λ (p : Tag × Entity). p.0) (filter (λ p. differ (get m p.0) (Some p.1)) to)) c.in_ok-changed.ensures.empty ∙ changed_of m to c.requires in
+    let missing = λ (entities others : List (Tag × Entity)). filter (λ t. is_none (find tag_cmp t others)) (map (λ (p : Tag × Entity). p.0) entities) in
+    let fresh = c.list_missing.ensures ∙ ap (λ ts. ts ++ missing to from) c.in_ok-fresh.ensures.empty ∙ missing_of to from c.requires.to in
+    let gone = c.list_missing-2.ensures ∙ ap (λ ts. ts ++ missing from to) c.in_ok-gone.ensures.empty ∙ missing_of from to c.requires.from in
+    let changed = c.list_changed.ensures ∙ ap (λ ts. ts ++ map (λ (p : Tag × Entity). p.0) (filter (λ p. differ (find tag_cmp p.0 from) (Some p.1)) to)) c.in_ok-changed.ensures.empty ∙ changed_of from to c.requires.to in
     λ i. record { fresh = (c.finish.ensures ∙ fresh) i; gone = (c.finish-2.ensures ∙ gone) i; changed = (c.finish-3.ensures ∙ changed) i }

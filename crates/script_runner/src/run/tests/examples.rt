@@ -2,12 +2,13 @@
 use crate::Status;
 
 /// A script, its report, and how its run ends.
-pub const EXAMPLES: [(&str, &str, Status); 5] = [
+pub const EXAMPLES: [(&str, &str, Status); 6] = [
     (BRANCHES_SCRIPT, BRANCHES_REPORT, Status::Done),
     (UNDO_SCRIPT, UNDO_REPORT, Status::Done),
     (REFUSALS_SCRIPT, REFUSALS_REPORT, Status::SomeRefused),
     (NOTHING_SCRIPT, NOTHING_REPORT, Status::Done),
     (TWELVE_SCRIPT, TWELVE_REPORT, Status::Done),
+    (KILLED_SCRIPT, KILLED_REPORT, Status::SomeRefused),
 ];
 
 const BRANCHES_SCRIPT: &str =
@@ -38,3 +39,9 @@ const TWELVE_SCRIPT: &str =
 
 const TWELVE_REPORT: &str =
     "report 1 1\nthread 1\n3 locked\n4 made 65-69\n5 made 70-74\n6 made 75-79\n7 made 80-84\n8 made 85-89\n9 made 90-94\n10 went fresh - gone 65-94 changed -\n11 made 95-99\n12 made 100-104\n13 made 105-109\n14 made 110-114\n15 went fresh - gone 95-114 changed -\n16 ended 1\npartition 1\nclaimed 1\ndid 1 mvfs 0 7 1000\ndid 1 mvfs 1 0 0\ndid 1 mvfs 2 0 0\ndid 1 mvfs 3 0 0\ndid 1 mvfs 4 0 0\ndid 1 mvfs 5 0 0\ndid 1 goto 64\ndid 1 mvfs 6 0 0\ndid 1 mvfs 7 0 0\ndid 1 mvfs 8 0 0\ndid 1 mvfs 9 0 0\ndid 1 goto 64\nreleased 1\nend\n";
+
+const KILLED_SCRIPT: &str =
+    "session 1 1\nthread\nlock 1\n1 mvfs 0 0 0\n1 mark\n1 kvfs 65\n1 kvfs 65\n1 goto 70\n1 kvfs 69\nend\n";
+
+const KILLED_REPORT: &str =
+    "report 1 1\nthread 1\n3 locked\n4 made 65-69\n5 made 70\n6 done\n7 refused 1 NoSuchTag 65\n8 went fresh 65-69 gone - changed -\n9 refused 2 WrongClass 69 vertex\n10 ended 1\npartition 1\nclaimed 1\ndid 1 mvfs 0 0 0\ndid 1 mark\ndid 1 kvfs 65\ndid 1 kvfs 65\ndid 1 goto 70\ndid 1 kvfs 69\nreleased 1\nend\n";

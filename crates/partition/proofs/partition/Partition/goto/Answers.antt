@@ -1,9 +1,8 @@
-use Rattle.std.proofs.Common.{◌≡◌, Some, [], ◌∷◌, ◌++◌, ap, sym, subst, ◌∙◌, arith}
+use Rattle.std.proofs.Common.{vec_capacity, vec_len, ◌-◌, ◌≡◌, Some, [], ◌∷◌, ◌++◌, ap, refl, sym, subst, ◌∙◌, arith}
 use Rattle.pk_base.specs.declared.act.Act.TheVariants as act
 use Rattle.pk_base.specs.declared.act.Entry.TheVariants.{Did}
 use Rattle.pk_model.specs.Tags.{spare_of}
 use Rattle.pk_model.specs.Step.{short}
-use Rattle.pk_model.specs.VertexBodies.{vertex_bodies}
 use Rattle.pk_model.proofs.Steps.{not_short}
 use Rattle.partition.specs.Partition.{Answers, PartitionView}
 use Rattle.partition.proofs.Valid.{did_answers, did_leads, valid_after, view}
@@ -11,27 +10,30 @@ use Rattle.partition.proofs.partition.Partition.goto.Goals as goal
 
 pub invariant_of-self-2 : goal.invariant_of-self-2
 invariant_of-self-2 g c =
+    let K = g.K.Meaning.modelling in
     let p = c.self.inside in
-    let s = p.contents in
+    let s = p.contents.state in
     let t = c.unwrap-thread.result in
     let a = act.Goto c.args.m in
     let holds : s.holder ≡ Some t = sym c.holder.ensures ∙ c.unwrap-thread.ensures in
-    let enough : short vertex_bodies s a ≡ 0 = not_short 0 (spare_of s.blocks s.used) (omega arith) in
+    let enough : short K s a ≡ 0 = not_short 0 (spare_of s.blocks s.used) (omega arith) in
     let grown = c.end_act.ensures.entry ∙ ap (λ j. j ++ Did t a ∷ []) c.in_ok-reserve.ensures.items in
-    valid_after vertex_bodies p.number s p.journal.items _ c.self.invariant (Did t a) (Some c.in_ok-done.done) c.goto.new.self _ _
-    (did_leads vertex_bodies s c.goto.new.self t a c.in_ok-done.done holds enough c.in_ok-done.ensures) grown
+    valid_after K p.number s p.journal.items _ c.self.invariant (Did t a) (Some c.in_ok-done.done) c.goto.new.self.state _ _
+    (did_leads K s c.goto.new.self.state t a c.in_ok-done.done holds enough c.in_ok-done.ensures) grown
     (λ h. omega (arith, c.in_ok-reserve.ensures.ok, c.in_ok-reserve.ensures.len, c.end_act.ensures.room, p.journal.ok.0, c.reserve.new.self.ok.0))
 
 pub returns : goal.returns
 returns g c =
+    let K = g.K.Meaning.modelling in
     let p = c.self.inside in
-    let s = p.contents in
+    let s = p.contents.state in
     let t = c.unwrap-thread.result in
     let a = act.Goto c.args.m in
     let holds : s.holder ≡ Some t = sym c.holder.ensures ∙ c.unwrap-thread.ensures in
-    let enough : short vertex_bodies s a ≡ 0 = not_short 0 (spare_of s.blocks s.used) (omega arith) in
+    let enough : short K s a ≡ 0 = not_short 0 (spare_of s.blocks s.used) (omega arith) in
     let grown = c.end_act.ensures.entry ∙ ap (λ j. j ++ Did t a ∷ []) c.in_ok-reserve.ensures.items in
-    let answers = did_answers vertex_bodies p.number s c.goto.new.self p.journal.items c.end_act.new.journal.items t a c.in_ok-done.done holds enough c.in_ok-done.ensures grown in
-    let new = view p.number c.goto.new.self c.end_act.new.journal.items in
-    subst (λ (v : PartitionView). Answers vertex_bodies v a c.end_act.result new) c.self.view_is
-    (subst (λ r. Answers vertex_bodies (view p.number s p.journal.items) a r new) (sym c.end_act.ensures.answer) answers)
+    let old = view p.number p.contents p.journal.items (vec_capacity p.journal - vec_len p.journal) in
+    let new = view p.number c.goto.new.self c.end_act.new.journal.items (vec_capacity c.end_act.new.journal - vec_len c.end_act.new.journal) in
+    subst (λ (v : PartitionView). Answers K v a c.end_act.result new) c.self.view_is
+    (subst (λ r. Answers K old a r new) (sym c.end_act.ensures.answer)
+    (did_answers K old new t a c.in_ok-done.done holds enough c.in_ok-done.ensures refl grown))

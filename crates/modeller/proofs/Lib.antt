@@ -1,0 +1,6 @@
+mod FoundParts
+mod Killed
+mod MayPerform
+mod Performing
+mod Puts
+mod Taken

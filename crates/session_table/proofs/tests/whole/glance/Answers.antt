@@ -1,5 +1,0 @@
-use Rattle.session_table.proofs.Visiting.{filled_by_claim, leaves_again, idle_lost}
-use Rattle.session_table.proofs.tests.whole.glance.Goals as goal
-
-pub release-requires-clause-filled : goal.release-requires-clause-filled
-release-requires-clause-filled c = filled_by_claim _ _ c.args.p c.in-Won.ensures.step
