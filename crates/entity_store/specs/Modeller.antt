@@ -15,8 +15,8 @@ use Rattle.entity_store.specs.Recording.{room_left}
 use Rattle.entity_store.specs.Recorder.{Records}
 use Rattle.entity_store.specs.declared.modeller.Need.{Need}
 
--- the call is not refused, whatever tags it is given; it takes so many of them, and writes and lists
--- no more than it names
+-- the call is not refused, whatever tags it is given; it takes so many of them, and writes and
+-- lists no more than it names
 pub record IsNeed (K : Modelling) (m : EntityMap) (c : Call) (n : Need) : Type 0 where
   pub goes : (tags : List Tag) → MayBeAsked K m c tags → IsOk (K.step m c tags)
   pub tags : n.tags ≡ K.cost m c

@@ -1,5 +1,5 @@
--- What is recorded of a store since a recorder was lent: what each tag that was put named first, and
--- of how many tags there is room to record it.
+-- What is recorded of a store since a recorder was lent: what each tag that was put named first,
+-- and of how many tags there is room to record it.
 use Rattle.std.specs.Prelude.{◌≡◌, ℕ, ◌+◌, ◌-◌, ◌≤◌, Bool, ◌||◌, IsTrue, nat_lt, if◌then◌else◌, List, [], ◌∷◌, ◌++◌, length, map, Option, None, Some, refl}
 use Rattle.std.specs.List.{list_any}
 use Rattle.std.specs.FinMap.{get}
@@ -35,7 +35,8 @@ abbrev pub has_put : List (Tag × Option Entity) → Tag → Bool
 has_put first t = list_any (λ p. same_tag p.0 t) first
 
 -- with what this tag named, where it was not put before
-abbrev pub recorded_put : List (Tag × Option Entity) → Tag → Option Entity → List (Tag × Option Entity)
+abbrev pub recorded_put : List (Tag × Option Entity) → Tag → Option Entity
+    → List (Tag × Option Entity)
 recorded_put first t before = if has_put first t then first else first ++ (t, before) ∷ []
 
 -- the map as it was, with these values put back at their tags

@@ -82,7 +82,8 @@ fn next_kid<'a, L: Ledger>(
     steps: &mut Steps<L>,
 ) -> Option<(u64, &'a Entity)>
     requires { from ≤ TAGS_OF_A_BLOCK * length store.now.state.blocks }
-    ensures within { IfSome result (λ kid. kid.0 < TAGS_OF_A_BLOCK * length store.now.state.blocks) }
+    ensures within { IfSome result (λ kid.
+        kid.0 < TAGS_OF_A_BLOCK * length store.now.state.blocks) }
     ensures some { IfSome result (λ kid.
         kids_among store.now.state.map owner (drop from (tags_of store.now.state.blocks))
         ≡ (tag_at (tags_of store.now.state.blocks) kid.0, kid.1.now)

@@ -1,5 +1,5 @@
-//! The store of a partition's entities: a finite map over the tags of the blocks that it owns. It is
-//! lent to a recorder, which gives the net change; and the trait of what changes it.
+//! The store of a partition's entities: a finite map over the tags of the blocks that it owns. It
+//! is lent to a recorder, which gives the net change; and the trait of what changes it.
 #![tactic(auto)]
 
 pub use changes::{Change, ChangeList, ChangeListBuilder, ListsBuilder};

@@ -177,7 +177,8 @@ impl Store {
         ensures same_store { IfOk result (λ r. r.store.ghost_name ≡ self.entry.ghost_name) }
         ensures state { IfOk result (λ r. r.store.now.state ≡ self.old.state) }
         ensures reserved { IfOk result (λ r. r.store.now.reserved ≡ self.old.reserved) }
-        ensures record { IfOk result (λ r. r.store.now.recording ≡ record { first = []; room = k }) }
+        ensures record { IfOk result (λ r. r.store.now.recording
+            ≡ record { first = []; room = k }) }
     {
         let room = RecordRoom::new(alloc, k)?;
         Ok(self.recorder_with(room))

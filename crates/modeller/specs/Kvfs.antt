@@ -41,7 +41,8 @@ parts_with_face m body shell face = option_and_then (λ loop_. option_map
 -- All parts of a bare body: it has no edge, no second face and no second loop. Nothing for another.
 abbrev pub bare_parts_without : List Tag → EntityMap → Tag → Tag → Option (List Tag)
 bare_parts_without [] m body shell =
-    option_and_then (λ face. parts_with_face m body shell face) (the_only (parts_of m is_face shell))
+    option_and_then (λ face. parts_with_face m body shell face)
+    (the_only (parts_of m is_face shell))
 bare_parts_without (edge ∷ edges) m body shell = None
 
 abbrev pub bare_parts : EntityMap → Tag → Tag → Option (List Tag)

@@ -162,8 +162,8 @@ impl<K: Modeller> Partition<K> {
         self.contents.set_holder(None);
     }
 
-    /// How many blocks are missing for an act; 0 where it is refused, or needs no more tags than are
-    /// left. It takes no memory.
+    /// How many blocks are missing for an act; 0 where it is refused, or needs no more tags than
+    /// are left. It takes no memory.
     pub fn short<L: Ledger>(&self, act: &Act, steps: &mut Steps<L>) -> u64
         ensures { result ≡ short K.modelling self.now.state act.now }
     {
@@ -288,8 +288,8 @@ impl<K: Modeller> Partition<K> {
         self.journal.push_reserved(Entry::Drew { thread, block: b });
     }
 
-    /// Writes down that the act was short of tags and that no block was left: a draw read the number
-    /// `next`, above the last block. Nothing else changes, and without memory nothing at all.
+    /// Writes down that the act was short of tags and that no block was left: a draw read the
+    /// number `next`, above the last block. Nothing else changes, and without memory nothing at all.
     pub fn spent(&mut self, act: Act, next: u64) -> Result<(), NoMemory>
         requires held { IsSome self.old.state.holder }
         requires short { 0 < short K.modelling self.old.state act }

@@ -2,8 +2,10 @@
 //! `PairBodies`, and the tests of what no clause of `partition` says.
 #![tactic(auto)]
 
+pub use laws::{a_goto_brings_the_map_back, no_tag_names_two_entities};
 pub use pair_bodies::PairBodies;
 
+mod laws;
 mod pair_bodies;
 #[cfg(test)]
 mod tests;

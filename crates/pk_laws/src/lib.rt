@@ -1,5 +1,6 @@
-//! Laws about the definitions, and worked examples that the checker computes. Nothing stands on
-//! them: they show that the definitions mean what they should. The functions here have no code.
+//! Laws about the definitions, and worked examples that the checker computes. No running
+//! code stands on them: they show that the definitions mean what they should. The functions here
+//! have no code.
 #![tactic(auto)]
 
 pub use commands::what_the_operands_are;
@@ -12,7 +13,7 @@ pub use partitions::{
     worked_two_branches,
 };
 pub use reports::{
-    what_a_full_block_reports, what_is_a_legal_report, what_is_out_of_order,
+    what_a_full_block_reports, what_is_a_legal_report, what_is_out_of_order, what_is_printable,
     what_two_threads_report,
 };
 

@@ -2,6 +2,7 @@
 ghost use Rattle.std.specs.Prelude.{[], ◌∷◌};
 ghost use Rattle.pk_model.specs.VertexBodies.{vertex_bodies};
 ghost use Rattle.script_text.specs.LegalReport.{LegalReport, HasLegalJournals};
+ghost use Rattle.script_text.specs.Printable.{IsPrintable};
 ghost use Rattle.pk_laws.specs.WorkedReports.{made, mark_report, mark_script};
 ghost use Rattle.pk_laws.specs.WorkedReports.{bare_script, untold_report};
 ghost use Rattle.pk_laws.specs.WorkedReports.{endless_script, held_report};
@@ -45,4 +46,10 @@ pub fn what_a_full_block_reports()
     ensures passed_over { LegalReport vertex_bodies (full_script 3) (drawn_report 3 3) → ⊥ }
     ensures too_soon { LegalReport vertex_bodies (full_script 2) (spent_report 2 3) → ⊥ }
     ensures wasteful { LegalReport vertex_bodies wasteful_script wasteful_report → ⊥ }
+{}
+
+/// Reports whose text is theirs alone.
+pub fn what_is_printable()
+    ensures one_thread { IsPrintable (mark_report (made (65 ∷ []))) }
+    ensures two_threads { IsPrintable shared_report }
 {}

@@ -6,4 +6,5 @@ pub mod Form
 pub mod Walk
 pub mod LegalReport
 pub mod Text
+pub mod Printable
 pub mod Reading

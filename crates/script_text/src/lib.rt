@@ -2,6 +2,7 @@
 //! `specs/` says besides when a report is a legal one of a script.
 #![tactic(auto)]
 
+pub use laws::a_text_is_of_one_report;
 pub use printing::{Text, report_text};
 pub use reading::{ScriptNo, read_script};
 pub use report::{
@@ -11,6 +12,7 @@ pub use script::{
     Cause, LineList, Operand, OperandList, Order, Script, ScriptLine, ThreadList, TurnList,
 };
 
+mod laws;
 mod printing;
 mod reading;
 mod report;

@@ -1,4 +1,4 @@
-use Rattle.std.proofs.Common.{◌*◌, ◌<◌, length, Fits, w64, ap, sym, subst, arith}
+use Rattle.std.proofs.Common.{◌*◌, length, Fits, w64, sym, subst, arith}
 use Rattle.entity_store.proofs.FewBlocks.{few_blocks}
 use Rattle.entity_store.proofs.tags.count_tags.Goals as goal
 

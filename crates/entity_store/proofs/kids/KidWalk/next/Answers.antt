@@ -1,4 +1,4 @@
-use Rattle.std.proofs.Common.{◌<◌, length, ap, ◌∙◌, arith}
+use Rattle.std.proofs.Common.{length, ap, arith}
 use Rattle.std.proofs.lemmas.List.{at_drop_all}
 use Rattle.pk_model.specs.Tags.{tags_of}
 use Rattle.pk_model.proofs.TagLists.{length-tags_of}

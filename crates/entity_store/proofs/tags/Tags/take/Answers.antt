@@ -1,5 +1,4 @@
-use Rattle.std.proofs.Common.{◌<◌, ap, arith}
-use Rattle.entity_store.specs.NextTags.{TagsView}
+use Rattle.std.proofs.Common.{arith}
 use Rattle.entity_store.proofs.FewBlocks.{few_blocks}
 use Rattle.entity_store.proofs.tags.Tags.take.Goals as goal
 
