@@ -1,0 +1,3 @@
+pub mod OnShapes
+pub mod Computed
+pub mod NotSound
