@@ -91,6 +91,43 @@ fn an_act_is_its_verb_and_fields(rt: HostRuntime) -> Result<(), Fail> {
 }
 
 #[test]
+fn an_act_takes_other_operands(rt: HostRuntime) -> Result<(), Fail> {
+    let alloc = rt.alloc();
+    let (a, b) = (Tag(71), Tag(72));
+    let moved = Act::Call(Call::RingMove {
+        ring: Tag(65),
+        to: Tag(66),
+    });
+    for (act, tags, with) in [
+        (&moved, &[a, b][..], Call::RingMove { ring: a, to: b }),
+        (
+            &moved,
+            &[a],
+            Call::RingMove {
+                ring: a,
+                to: Tag(0),
+            },
+        ),
+        (
+            &Act::Call(Call::Mev {
+                end: Tag(65),
+                at: AT,
+            }),
+            &[b, a],
+            Call::Mev { end: b, at: AT },
+        ),
+        (&Act::Call(Call::Bodies), &[a], Call::Bodies),
+    ] {
+        let made = act_on(alloc, act, tags)?;
+        assert_eq!(rt;
+            format!(in alloc; "{made:?}")?,
+            format!(in alloc; "{:?}", Act::Call(with))?
+        );
+    }
+    Ok(())
+}
+
+#[test]
 fn fields_of_other_kinds_make_no_act(rt: HostRuntime) -> Result<(), Fail> {
     let alloc = rt.alloc();
     for (verb, fields) in [

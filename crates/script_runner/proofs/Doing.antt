@@ -1,5 +1,5 @@
 -- What an act of thread 1 in its partition says, and what it keeps.
-use Rattle.std.proofs.Common.{◌≡◌, ℕ, ◌+◌, ◌-◌, ◌≤◌, ◌<◌, ◌==◌, ◌&&◌, Bool, true, false, cond, List, [], ◌∷◌, ◌++◌, length, take, get_or, suc, Option, None, Some, unwrap_or, Result, Ok, Err, refl, sym, ap, subst, ◌∙◌, arith}
+use Rattle.std.proofs.Common.{◌≡◌, ℕ, ◌+◌, ◌-◌, ◌≤◌, ◌<◌, ◌==◌, ◌&&◌, Bool, true, false, cond, List, [], ◌∷◌, ◌++◌, length, map, take, get_or, suc, Option, None, Some, unwrap_or, Result, Ok, Err, refl, sym, ap, ap₂, subst, ◌∙◌, arith, rules}
 use Rattle.std.proofs.Math.Seq.{take-suc}
 use Rattle.std.proofs.lemmas.List.{append_assoc}
 use Rattle.std.specs.Prelude.{IfOk}
@@ -23,10 +23,11 @@ use Rattle.modeller.specs.EulerLaws.{euler-few_tags}
 use Rattle.pk_model.proofs.Steps.{reach_of-call, reach_of-call_refused, reach_of-goto, reach_of-goto_refused}
 use Rattle.pk_model.proofs.TagLists.{ByRecursion-get_or}
 use Rattle.partition.specs.Partition.{PartitionView, Appends, Answers, holder_of}
-use Rattle.script_runner.specs.Built.{IsActLine, is_built}
-use Rattle.script_text.specs.Form.{act_line}
-use Rattle.script_runner.specs.OneThread.{Does, HasRoom, SaysOf, Tells}
+use Rattle.pk_command.specs.Operands.{act_on}
+use Rattle.script_runner.specs.Built.{IsActLine, act_line, is_built}
+use Rattle.script_runner.specs.OneThread.{Does, HasRoom, SaysOf, Tells, digits_in}
 use Rattle.script_text.specs.declared.script.Operand.{Operand}
+use Rattle.script_text.specs.declared.script.Operand.TheVariants.{Digits}
 use Rattle.script_text.specs.declared.script.Order.TheVariants.{On}
 use Rattle.script_text.specs.declared.script.ScriptLine.{ScriptLine}
 use Rattle.script_text.specs.declared.report.Line.{Line}
@@ -84,12 +85,12 @@ did_keeps s a r b h = did_by s a (holds s 1 && (short euler s a == 0)) r b h
 pub one_line_more : (first old new more : List Line) (m : Line) → new ≡ old ++ m ∷ [] → old ≡ first ++ more → new ≡ first ++ (more ++ m ∷ [])
 one_line_more first old new more m pushed was = pushed ∙ ap (λ ls. ls ++ m ∷ []) was ∙ append_assoc first more (m ∷ [])
 
-pub does_push : (K : Modelling) (old mid new : PartitionView) (ls : List ScriptLine) (ms : List Line) (l : ScriptLine) (m : Line) (a : Act) → m.number ≡ l.number → l ≡ act_line l.number a → Does K old ls ms mid → Tells K mid a m.said new → Does K old (ls ++ l ∷ []) (ms ++ m ∷ []) new
-does_push K old mid new [] [] l m a n is h t = (n, (a, (is, (new, (subst (λ (v : PartitionView). Tells K v a m.said new) h t, refl)))))
-does_push K old mid new (x ∷ ls) (y ∷ ms) l m a n is h t =
-    (h.0, (h.1.0, (h.1.1.0, (h.1.1.1.0, (h.1.1.1.1.0, does_push K h.1.1.1.0 mid new ls ms l m a n is h.1.1.1.1.1 t)))))
-does_push K old mid new [] (y ∷ ms) l m a n is h t = elim h [ ]
-does_push K old mid new (x ∷ ls) [] l m a n is h t = elim h [ ]
+pub does_push : (K : Modelling) (old mid new : PartitionView) (ls : List ScriptLine) (ms : List Line) (l : ScriptLine) (m : Line) (a : Act) (tags : List Tag) → m.number ≡ l.number → l ≡ act_line l.number a tags → Does K old ls ms mid → Tells K mid (act_on a tags) m.said new → Does K old (ls ++ l ∷ []) (ms ++ m ∷ []) new
+does_push K old mid new [] [] l m a tags n is h t = (n, (a, (tags, (is, (new, (subst (λ (v : PartitionView). Tells K v (act_on a tags) m.said new) h t, refl))))))
+does_push K old mid new (x ∷ ls) (y ∷ ms) l m a tags n is h t =
+    (h.0, (h.1.0, (h.1.1.0, (h.1.1.1.0, (h.1.1.1.1.0, (h.1.1.1.1.1.0, does_push K h.1.1.1.1.0 mid new ls ms l m a tags n is h.1.1.1.1.1.1 t))))))
+does_push K old mid new [] (y ∷ ms) l m a tags n is h t = elim h [ ]
+does_push K old mid new (x ∷ ls) [] l m a tags n is h t = elim h [ ]
 
 -- an act that was told leaves the holder, and room for the rest
 pub tells_keeps : (old new : PartitionView) (a : Act) (said : LineSaid) → is_built a ≡ true → Tells euler old a said new → Keeps old.state new.state
@@ -101,28 +102,40 @@ room_left old new n k keeps more room = let same = ap length keeps.blocks in ome
 pub room_for_one : (s : PartitionState) (n k : ℕ) → k < n → HasRoom s (n - k) → HasRoom s 1
 room_for_one s n k more room = omega (arith, more, room)
 
+-- the tags that are put in an act leave what it is
+is_built-on : (a : Act) (tags : List Tag) → is_built (act_on a tags) ≡ is_built a
+is_built-on a tags = search rules
+
+digits_in-digits : (tags : List Tag) → digits_in (map Digits tags) ≡ tags
+digits_in-digits [] = refl
+digits_in-digits (t ∷ ts) = ap (λ ds. t ∷ ds) (digits_in-digits ts)
+
 -- an act line at its place among those that are done
-pub record IsNextAct (acts : List ScriptLine) (k : ℕ) (l : ScriptLine) (a : Act) : Type 0 where
-  pub built : is_built a ≡ true
-  pub line : l ≡ act_line l.number a
+pub record IsNextAct (acts : List ScriptLine) (k : ℕ) (l : ScriptLine) (a : Act) (tags : List Tag) : Type 0 where
+  pub built : is_built (act_on a tags) ≡ true
+  pub line : l ≡ act_line l.number a tags
   pub taken : take (k + 1) acts ≡ take k acts ++ l ∷ []
 
 one_more : (k : ℕ) → k + 1 ≡ suc k
 one_more k = omega arith
 
-same_act : (l : ScriptLine) (a b : Act) (p : ℕ) (operands : List Operand) (bind : Option Name) → l ≡ act_line l.number a → l.order ≡ On p b operands bind → a ≡ b
-same_act l a b p operands bind is on = cc
+same_act : (l : ScriptLine) (a b : Act) (tags : List Tag) (p : ℕ) (operands : List Operand) (bind : Option Name) → l ≡ act_line l.number a tags → l.order ≡ On p b operands bind → a ≡ b
+same_act l a b tags p operands bind is on = cc
 
-pub next_act : (acts : List ScriptLine) (k : ℕ) (l : ScriptLine) (a : Act) (p : ℕ) (operands : List Operand) (bind : Option Name) → AllByRecursion IsActLine acts → k < length acts → l ≡ get_or acts k l → l.order ≡ On p a operands bind → IsNextAct acts k l a
+same_operands : (l : ScriptLine) (a b : Act) (tags : List Tag) (p : ℕ) (operands : List Operand) (bind : Option Name) → l ≡ act_line l.number a tags → l.order ≡ On p b operands bind → map Digits tags ≡ operands
+same_operands l a b tags p operands bind is on = cc
+
+pub next_act : (acts : List ScriptLine) (k : ℕ) (l : ScriptLine) (a : Act) (p : ℕ) (operands : List Operand) (bind : Option Name) → AllByRecursion IsActLine acts → k < length acts → l ≡ get_or acts k l → l.order ≡ On p a operands bind → IsNextAct acts k l a (digits_in operands)
 next_act acts k l a p operands bind each less is on =
     let x = subst IsActLine (sym is) (ByRecursion-get_or IsActLine acts k l less each) in
-    let same = same_act l x.0 a p operands bind x.1.1 on in
+    let same = same_act l x.a a x.tags p operands bind x.line on in
+    let tags : x.tags ≡ digits_in operands = sym (digits_in-digits x.tags) ∙ ap digits_in (same_operands l x.a a x.tags p operands bind x.line on) in
     record {
-      built = subst (λ b. is_built b ≡ true) same x.1.0;
-      line = subst (λ b. l ≡ act_line l.number b) same x.1.1;
+      built = is_built-on a (digits_in operands) ∙ ap is_built (sym same) ∙ x.built;
+      line = x.line ∙ ap₂ (λ b ts. act_line l.number b ts) same tags;
       taken = ap (λ n. take n acts) (one_more k) ∙ take-suc acts k l less ∙ ap (λ y. take k acts ++ y ∷ []) (sym is);
     }
 
-pub does_next : (K : Modelling) (first old new : PartitionView) (acts : List ScriptLine) (k : ℕ) (l : ScriptLine) (a : Act) (more : List Line) (m : Line) → IsNextAct acts k l a → m.number ≡ l.number → Does K first (take k acts) more old → Tells K old a m.said new → Does K first (take (k + 1) acts) (more ++ m ∷ []) new
-does_next K first old new acts k l a more m next n does t =
-    subst (λ ls. Does K first ls (more ++ m ∷ []) new) (sym next.taken) (does_push K first old new (take k acts) more l m a n next.line does t)
+pub does_next : (K : Modelling) (first old new : PartitionView) (acts : List ScriptLine) (k : ℕ) (l : ScriptLine) (a : Act) (tags : List Tag) (more : List Line) (m : Line) → IsNextAct acts k l a tags → m.number ≡ l.number → Does K first (take k acts) more old → Tells K old (act_on a tags) m.said new → Does K first (take (k + 1) acts) (more ++ m ∷ []) new
+does_next K first old new acts k l a tags more m next n does t =
+    subst (λ ls. Does K first ls (more ++ m ∷ []) new) (sym next.taken) (does_push K first old new (take k acts) more l m a tags n next.line does t)

@@ -1,19 +1,60 @@
--- A script that is read, and of which each act is built, has the form that is carried out.
-use Rattle.std.proofs.Common.{◌≡◌, ℕ, ◌+◌, ◌-◌, ◌<◌, ◌≤◌, ◌==◌, Bool, true, false, if◌then◌else◌, List, [], ◌∷◌, ◌++◌, length, Option, None, Some, Result, Ok, Err, bytes_eq, codes, refl, sym, ap, ◌∙◌, subst, arith}
-use Rattle.std.proofs.lemmas.Bool.{eqb-false}
-use Rattle.std.specs.List.{AllByRecursion}
+-- A script of which each line is carried out is of the form of one thread.
+use Rattle.std.proofs.Common.{◌≡◌, ℕ, ◌-◌, ◌<◌, ◌≤◌, ◌==◌, ◌&&◌, Bool, true, false, not, if◌then◌else◌, List, [], ◌∷◌, ◌++◌, length, map, Option, None, Some, refl, ap, arith}
+use Rattle.std.proofs.lemmas.Bool.{and_parts, eqb-false, eqb-true, not-true}
+use Rattle.std.specs.Prelude.{is_none}
+use Rattle.std.specs.List.{AllByRecursion, list_all}
 use Rattle.std.specs.Option.{option_or}
-use Rattle.pk_base.specs.declared.act.Act.{Act}
-use Rattle.script_text.specs.Pieces.{lines_of}
-use Rattle.script_text.specs.Form.{BadLine, bad, act_of_line, act_line, onto_lines, with_act, ends_at, acts_from, expects, script_with, script_of, script_of_thread}
+use Rattle.pk_base.specs.declared.tag.Tag.{Tag}
+use Rattle.pk_base.specs.declared.entity.Name.{Name}
 use Rattle.script_text.specs.declared.script.Script.{Script}
 use Rattle.script_text.specs.declared.script.ScriptLine.{ScriptLine}
-use Rattle.script_text.specs.declared.script.Order.TheVariants.{Lock, End}
-use Rattle.script_runner.specs.Built.{HasForm, IsActLine, is_built, is_built_order, unbuilt_in, unbuilt_line}
+use Rattle.script_text.specs.declared.script.Order.{Order}
+use Rattle.script_text.specs.declared.script.Order.TheVariants.{Lock, Unlock, End, On}
+use Rattle.script_text.specs.declared.script.Operand.{Operand}
+use Rattle.script_text.specs.declared.script.Operand.TheVariants.{Digits, Named}
+use Rattle.script_runner.specs.Built.{HasForm, IsActLine, IsOneThread, end_line, first_number, has_plain_header, is_built, is_built_order, is_digits, is_end, is_first_lock, lock_line, misplaced_act, misplaced_line, second_thread, thread_number, unbuilt_in}
 
--- the line does an act on partition 1, built or not
-abbrev IsAnAct : ScriptLine → Type 0
-IsAnAct l = (a : Act) × (l ≡ act_line l.number a)
+-- ---- one line
+
+-- operands that are all digits are those of some tags
+record AreDigits (operands : List Operand) : Type 0 where
+  tags : List Tag
+  are : operands ≡ map Digits tags
+
+digits_form : (operands : List Operand) → list_all is_digits operands ≡ true → AreDigits operands
+digits_form [] h = record { tags = []; are = refl }
+digits_form (Named name at ∷ os) h = absurd (cc)
+digits_form (Digits t ∷ os) h = let more = digits_form os h in record { tags = t ∷ more.tags; are = ap (λ ds. Digits t ∷ ds) more.are }
+
+none_form : (bind : Option Name) → is_none bind ≡ true → bind ≡ None
+none_form None h = refl
+none_form (Some name) h = absurd (cc)
+
+act_form : (k : ℕ) (o : Order) → is_built_order o ≡ true → IsActLine (record { number = k; order = o })
+act_form k (Lock p) h = absurd (cc)
+act_form k (Unlock p) h = absurd (cc)
+act_form k End h = absurd (cc)
+act_form k (On p a operands bind) h =
+    let one = and_parts (p == 1) _ h in
+    let built = and_parts (is_built a) _ one.1 in
+    let rest = and_parts (list_all is_digits operands) (is_none bind) built.1 in
+    let at : p ≡ 1 = eqb-true p 1 one.0 in
+    let digits = digits_form operands rest.0 in
+    let are = digits.are in
+    let unbound = none_form bind rest.1 in
+    record { a = a; tags = digits.tags; built = built.0; line = cc }
+
+lock_form : (o : Order) → is_first_lock o ≡ true → o ≡ Lock 1
+lock_form (Lock p) h = ap Lock (eqb-true p 1 h)
+lock_form (Unlock p) h = absurd (cc)
+lock_form End h = absurd (cc)
+lock_form (On p a operands bind) h = absurd (cc)
+
+end_form : (o : Order) → is_end o ≡ true → o ≡ End
+end_form (Lock p) h = absurd (cc)
+end_form (Unlock p) h = absurd (cc)
+end_form End h = refl
+end_form (On p a operands bind) h = absurd (cc)
 
 -- ---- the acts and `end`
 
@@ -21,92 +62,86 @@ IsAnAct l = (a : Act) × (l ≡ act_line l.number a)
 record Ending (room : ℕ) (lines : List ScriptLine) : Type 0 where
   acts : List ScriptLine
   last : ℕ
-  whole : lines ≡ acts ++ record { number = last; order = End } ∷ []
+  whole : lines ≡ acts ++ end_line last ∷ []
   few : length acts ≤ room
-  each : AllByRecursion IsAnAct acts
+  each : AllByRecursion IsActLine acts
 
-ends_form : (k room : ℕ) (lines : List (List ℕ)) (rest : List ℕ) (ls : List ScriptLine) → ends_at k lines rest ≡ Ok ls → Ending room ls
-ends_form k room [] [] ls e = let same : record { number = k; order = End } ∷ [] ≡ ls = cc in record { acts = []; last = k; whole = sym same; few = omega arith; each = tt }
-ends_form k room [] (b ∷ bs) ls e = cc
-ends_form k room (line ∷ lines) rest ls e = cc
+none_left : (ls : List ScriptLine) → first_number ls ≡ None → ls ≡ []
+none_left [] h = refl
+none_left (l ∷ ls) h = absurd (cc)
 
-onto_form : (k room : ℕ) (a : Act) (more : Result (List ScriptLine) BadLine) (ls : List ScriptLine) → 0 < room → ((ms : List ScriptLine) → more ≡ Ok ms → Ending (room - 1) ms) → onto_lines (act_line k a) more ≡ Ok ls → Ending room ls
-onto_form k room a (Err n) ls left ends e = cc
-onto_form k room a (Ok ms) ls left ends e =
-    let rest = ends ms refl in
-    let same : act_line k a ∷ ms ≡ ls = cc in
-    record {
-      acts = act_line k a ∷ rest.acts;
-      last = rest.last;
-      whole = sym same ∙ ap (λ ms. act_line k a ∷ ms) rest.whole;
-      few = let few = rest.few in omega arith;
-      each = ((a, refl), rest.each);
-    }
+only_end : (room : ℕ) (l : ScriptLine) (ls : List ScriptLine) → is_end l.order ≡ true → first_number ls ≡ None → Ending room (l ∷ ls)
+only_end room l ls end none =
+    let last : l ≡ end_line l.number = ap (λ (o : Order). record { number = l.number; order = o }) (end_form l.order end) in
+    let nothing = none_left ls none in
+    record { acts = []; last = l.number; whole = cc; few = omega arith; each = tt }
 
-act_form : (k room : ℕ) (a : Option Act) (more : Result (List ScriptLine) BadLine) (ls : List ScriptLine) → 0 < room → ((ms : List ScriptLine) → more ≡ Ok ms → Ending (room - 1) ms) → with_act k a more ≡ Ok ls → Ending room ls
-act_form k room None more ls left ends e = cc
-act_form k room (Some a) more ls left ends e = onto_form k room a more ls left ends e
+one_act : (room : ℕ) (l : ScriptLine) (ls : List ScriptLine) → 0 < room → is_built_order l.order ≡ true → Ending (room - 1) ls → Ending room (l ∷ ls)
+one_act room l ls some built rest = record {
+  acts = l ∷ rest.acts;
+  last = rest.last;
+  whole = ap (λ ms. l ∷ ms) rest.whole;
+  few = let few = rest.few in omega arith;
+  each = (act_form l.number l.order built, rest.each);
+}
 
-room_form : (k room : ℕ) (b : Bool) (r : Result (List ScriptLine) BadLine) (ls : List ScriptLine) → (room == 0) ≡ b → (0 < room → r ≡ Ok ls → Ending room ls) → (if b then Err (bad k) else r) ≡ Ok ls → Ending room ls
-room_form k room true r ls full ends e = cc
-room_form k room false r ls full ends e = let some = eqb-false room 0 full in ends (omega arith) e
+-- the line is told apart by these two tests
+ending_by : (room : ℕ) (l : ScriptLine) (ls : List ScriptLine) (end act : Bool) → is_end l.order ≡ end → (not (room == 0) && is_built_order l.order) ≡ act → (misplaced_act (room - 1) ls ≡ None → Ending (room - 1) ls)
+    → (if end then first_number ls else (if act then misplaced_act (room - 1) ls else Some l.number)) ≡ None → Ending room (l ∷ ls)
+ending_by room l ls true act is_end is_act more none = only_end room l ls is_end none
+ending_by room l ls false false is_end is_act more none = absurd (cc)
+ending_by room l ls false true is_end is_act more none =
+    let parts = and_parts (not (room == 0)) (is_built_order l.order) is_act in
+    let some = eqb-false room 0 (not-true (room == 0) parts.0) in
+    one_act room l ls (omega arith) parts.1 (more none)
 
-line_form : (room : ℕ) (b : Bool) (x y : Result (List ScriptLine) BadLine) (ls : List ScriptLine) → (x ≡ Ok ls → Ending room ls) → (y ≡ Ok ls → Ending room ls) → (if b then x else y) ≡ Ok ls → Ending room ls
-line_form room true x y ls f g e = f e
-line_form room false x y ls f g e = g e
+ending_form : (room : ℕ) (lines : List ScriptLine) → misplaced_act room lines ≡ None → Ending room lines
+ending_form room [] none = absurd (cc)
+ending_form room (l ∷ ls) none = ending_by room l ls _ _ refl refl (ending_form (room - 1) ls) none
 
-acts_form : (k room : ℕ) (lines : List (List ℕ)) (rest : List ℕ) (ls : List ScriptLine) → acts_from k room lines rest ≡ Ok ls → Ending room ls
-acts_form k room [] rest ls e = cc
-acts_form k room (line ∷ lines) rest ls e =
-    line_form room (bytes_eq line (codes "end")) _ _ ls (ends_form k room lines rest ls)
-    (room_form k room (room == 0) _ ls refl (λ left. act_form k room (act_of_line line) _ ls left (acts_form (k + 1) (room - 1) lines rest))) e
+-- ---- the thread
 
--- where no line is unbuilt, each act is built
-first_built : (l : ScriptLine) (a : Act) (b : Bool) (more : Option ℕ) → l ≡ act_line l.number a → is_built a ≡ b → (if b then more else Some l.number) ≡ None → IsActLine l × (more ≡ None)
-first_built l a true more line is none = ((a, (is, line)), none)
-first_built l a false more line is none = cc
+thread_by : (l : ScriptLine) (ls : List ScriptLine) (lock : Bool) → is_first_lock l.order ≡ lock → (if lock then misplaced_act 12 ls else Some l.number) ≡ None → IsOneThread (l ∷ ls)
+thread_by l ls false is none = absurd (cc)
+thread_by l ls true is none =
+    let end = ending_form 12 ls none in
+    let first : l ≡ lock_line l.number = ap (λ (o : Order). record { number = l.number; order = o }) (lock_form l.order is) in
+    let rest = end.whole in
+    record { first = l.number; acts = end.acts; last = end.last; whole = cc; few = end.few; each = end.each }
 
-each_built : (acts : List ScriptLine) (last : ScriptLine) → AllByRecursion IsAnAct acts → unbuilt_line (acts ++ last ∷ []) ≡ None → AllByRecursion IsActLine acts
-each_built [] last h none = tt
-each_built (l ∷ ls) last h none =
-    let more = unbuilt_line (ls ++ last ∷ []) in
-    let first = first_built l h.0.0 (is_built h.0.0) more h.0.1 refl (subst (λ (x : ScriptLine). (if is_built_order x.order then more else Some l.number) ≡ None) h.0.1 none) in
-    (first.0, each_built ls last h.1 first.1)
+thread_form : (lines : List ScriptLine) → misplaced_line lines ≡ None → IsOneThread lines
+thread_form [] none = absurd (cc)
+thread_form (l ∷ ls) none = thread_by l ls _ refl none
 
-option_or_none : (o more : Option ℕ) → option_or o more ≡ None → o ≡ None
-option_or_none None more h = refl
-option_or_none (Some x) more h = cc
+-- ---- the script
 
--- ---- the lines before them
+-- no line of the first thread, and no second thread
+none_of_either : (o : Option ℕ) (threads : List (List ScriptLine)) → option_or o (second_thread threads) ≡ None → (o ≡ None) × (threads ≡ [])
+none_of_either (Some k) threads none = absurd (cc)
+none_of_either None [] none = (refl, refl)
+none_of_either None (lines ∷ threads) none = absurd (cc)
 
-thread_form : (r : Result (List ScriptLine) BadLine) (script : Script) → unbuilt_in script.threads ≡ None → ((ls : List ScriptLine) → r ≡ Ok ls → Ending 12 ls) → script_with r ≡ Ok script → HasForm script
-thread_form (Err k) script built ends e = cc
-thread_form (Ok ls) script built ends e =
-    let end = ends ls refl in
-    let lines = record { number = 3; order = Lock 1 } ∷ ls in
-    let same : script_of_thread lines ≡ script = cc in
-    let none : unbuilt_line lines ≡ None = option_or_none (unbuilt_line lines) None (subst (λ (s : Script). unbuilt_in s.threads ≡ None) (sym same) built) in
-    let built_acts : unbuilt_line (end.acts ++ record { number = end.last; order = End } ∷ []) ≡ None = ap unbuilt_line (sym end.whole) ∙ none in
-    record {
-      lines = lines;
-      whole = sym same;
-      thread = record { first = 3; acts = end.acts; last = end.last; whole = ap (λ ls. record { number = 3; order = Lock 1 } ∷ ls) end.whole; few = end.few; each = each_built end.acts _ end.each built_acts };
-    }
+no_turns : (turns : List ℕ) → length turns ≡ 0 → turns ≡ []
+no_turns [] h = refl
+no_turns (t ∷ ts) h = absurd (omega (arith, h))
 
-expected : (b : Bool) (k : ℕ) (r : Result Script BadLine) (script : Script) → (r ≡ Ok script → HasForm script) → (if b then r else Err (bad k)) ≡ Ok script → HasForm script
-expected true k r script goes_on e = goes_on e
-expected false k r script goes_on e = cc
+form_by : (n last : ℕ) (schedule : List ℕ) (lines : List ScriptLine) (threads : List (List ScriptLine)) (plain : Bool) → let s : Script = record { n = n; last = last; schedule = schedule; threads = lines ∷ threads } in
+    has_plain_header s ≡ plain → (if plain then option_or (misplaced_line lines) (second_thread threads) else Some (thread_number lines)) ≡ None → HasForm s
+form_by n last schedule lines threads false is none = absurd (cc)
+form_by n last schedule lines threads true is none =
+    let one = and_parts (n == 1) _ is in
+    let two = and_parts (last == 1) (length schedule == 0) one.1 in
+    let n_is : n ≡ 1 = eqb-true n 1 one.0 in
+    let last_is : last ≡ 1 = eqb-true last 1 two.0 in
+    let turns = no_turns schedule (eqb-true (length schedule) 0 two.1) in
+    let both = none_of_either (misplaced_line lines) threads none in
+    let alone = both.1 in
+    record { lines = lines; whole = cc; thread = thread_form lines both.0 }
 
-expects_form : (k : ℕ) (text : List ℕ) (lines : List (List ℕ)) (next : List (List ℕ) → Result Script BadLine) (script : Script) → ((more : List (List ℕ)) → next more ≡ Ok script → HasForm script) → expects k text lines next ≡ Ok script → HasForm script
-expects_form k text [] next script goes_on e = cc
-expects_form k text (line ∷ lines) next script goes_on e = expected (bytes_eq line text) k (next lines) script (goes_on lines) e
+form_of : (n last : ℕ) (schedule : List ℕ) (threads : List (List ScriptLine)) → let s : Script = record { n = n; last = last; schedule = schedule; threads = threads } in unbuilt_in s ≡ None → HasForm s
+form_of n last schedule [] none = absurd (cc)
+form_of n last schedule (lines ∷ threads) none = form_by n last schedule lines threads _ refl none
 
--- a script that is read has the form that is carried out
-pub script_form : (bytes : List ℕ) (script : Script) → script_of bytes ≡ Ok script → unbuilt_in script.threads ≡ None → HasForm script
-unfolding script_of
-script_form bytes script e built =
-    let rest = (lines_of bytes).rest in
-    expects_form 1 (codes "session 1 1") (lines_of bytes).ended _ script
-    (λ lines. expects_form 2 (codes "thread") lines _ script
-    (λ lines. expects_form 3 (codes "lock 1") lines _ script
-    (λ lines. thread_form (acts_from 4 12 lines rest) script built (acts_form 4 12 lines rest)))) e
+-- a script without a line that is not carried out has the form that is carried out
+pub script_form : (script : Script) → unbuilt_in script ≡ None → HasForm script
+script_form s none = form_of s.n s.last s.schedule s.threads none

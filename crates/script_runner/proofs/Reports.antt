@@ -5,8 +5,8 @@ use Rattle.pk_base.specs.declared.act.Entry.{Entry}
 use Rattle.modeller.specs.Euler.{euler}
 use Rattle.pk_model.proofs.Apartness.{one_journal_apart}
 use Rattle.modeller.specs.EulerLaws.{euler-IsModeller}
-use Rattle.script_text.specs.Form.{script_of_thread}
 use Rattle.script_text.specs.LegalReport.{LegalReport}
+use Rattle.script_runner.specs.Built.{script_of_thread}
 use Rattle.script_runner.specs.Headline.{IsLawful}
 use Rattle.script_runner.specs.OneThread.{IsRunOf, report_of_one}
 use Rattle.script_text.specs.declared.script.Script.{Script}

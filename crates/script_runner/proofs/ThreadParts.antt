@@ -2,8 +2,7 @@
 use Rattle.std.proofs.Common.{◌≡◌, ◌-◌, List, [], ◌∷◌, ◌++◌, length, get_or, take, drop, sym, ap, ap₂, ◌∙◌, arith}
 use Rattle.std.proofs.Math.Seq.{get_or-append_seam, take-append_seam}
 use Rattle.std.proofs.lemmas.List.{length-append}
-use Rattle.script_text.specs.Form.{end_line, lock_line}
-use Rattle.script_runner.specs.Built.{IsOneThread}
+use Rattle.script_runner.specs.Built.{IsOneThread, end_line, lock_line}
 use Rattle.script_text.specs.declared.script.ScriptLine.{ScriptLine}
 
 abbrev pub between : List ScriptLine → List ScriptLine

@@ -20,11 +20,10 @@ use Rattle.pk_model.specs.Replay.{replay, replay_from, AnsweredEntry, answered_e
 use Rattle.modeller.specs.Euler.{euler}
 use Rattle.pk_model.proofs.Replays.{replay_from-step, replay_from-append, answered_entries_from-step, told_of}
 use Rattle.pk_model.proofs.TagLists.{ByRecursion-append}
-use Rattle.pk_command.specs.Operands.{act_on, operands_of}
-use Rattle.pk_command.proofs.Operands.{act_on-own}
+use Rattle.pk_command.specs.Operands.{act_on}
 use Rattle.partition.specs.Partition.{PartitionView, Appends, Begins}
-use Rattle.script_text.specs.Form.{act_line, end_line, lock_line}
 use Rattle.script_text.specs.LegalReport.{LegalJournals}
+use Rattle.script_runner.specs.Built.{act_line, end_line, lock_line}
 use Rattle.script_runner.specs.OneThread.{Does, IsRunOf}
 use Rattle.script_text.specs.Walk.{Walker, Walks, OrderSays, OrderTakes, ActSays, IsTurnedAway, said_of, refusal_of_order, refusal_of_operands, ◌or_else◌, onto_tags, tags_of_operands, act_with_tags}
 use Rattle.script_text.specs.declared.script.ScriptLine.{ScriptLine}
@@ -63,18 +62,18 @@ digits_named : (names : List (Name × List Tag)) (i : ℕ) (tags : List Tag) →
 digits_named names i [] = refl
 digits_named names i (t ∷ ts) = ap (λ r. onto_tags i (Some t) r) (digits_named names (i + 1) ts)
 
--- so an act of digits alone is itself, and is not turned away
-resolves_to_itself : (w : Walker) (a : Act) → act_with_tags w a (map Digits (operands_of a)) ≡ a
-resolves_to_itself w a = ap (λ r. act_on a (result_unwrap_or r [])) (digits_named w.names 1 (operands_of a)) ∙ act_on-own a
+-- so an act of digits alone takes them as its operands, and is not turned away
+resolves_to_digits : (w : Walker) (a : Act) (tags : List Tag) → act_with_tags w a (map Digits tags) ≡ act_on a tags
+resolves_to_digits w a tags = ap (λ r. act_on a (result_unwrap_or r [])) (digits_named w.names 1 tags)
 
-line_says : (s : PartitionState) (k : ℕ) (a : Act) (answer : Result Reply Refusal) (rest : List AnsweredEntry) → Says (holding (did s a answer ∷ rest)) (act_line k a) (said_of answer) (holding rest)
-line_says s k a answer rest =
-    let w = holding (did s a answer ∷ rest) in
-    let operands = map Digits (operands_of a) in
+line_says : (s : PartitionState) (k : ℕ) (a : Act) (tags : List Tag) (answer : Result Reply Refusal) (rest : List AnsweredEntry) → Says (holding (did s (act_on a tags) answer ∷ rest)) (act_line k a tags) (said_of answer) (holding rest)
+line_says s k a tags answer rest =
+    let w = holding (did s (act_on a tags) answer ∷ rest) in
+    let operands = map Digits tags in
     let says = ActSays euler 1 w 1 in
-    let none : refusal_of_order 1 w (On 1 a operands None) ≡ None = ap (λ r. refusal_of_operands r or_else None) (digits_named [] 1 (operands_of a)) in
+    let none : refusal_of_order 1 w (On 1 a operands None) ≡ None = ap (λ r. refusal_of_operands r or_else None) (digits_named [] 1 tags) in
     subst (λ o. MatchOption o (OrderTakes euler 1 w (On 1 a operands None) (said_of answer) (holding rest)) (λ r. IsTurnedAway w r (said_of answer) (holding rest))) (sym none)
-    (subst (λ b. says b None (said_of answer) (holding rest)) (sym (resolves_to_itself w a)) (act_says s a answer rest))
+    (subst (λ b. says b None (said_of answer) (holding rest)) (sym (resolves_to_digits w a tags)) (act_says s (act_on a tags) answer rest))
 
 -- ---- the acts
 
@@ -101,17 +100,18 @@ does_walk old new [] [] h = record {
   walks = λ tail ls ms after w. subst (λ (v : PartitionView). WalksTo (holding (answered_entries_from euler v.state tail)) ls ms after) h w;
 }
 does_walk old new (l ∷ lines) (m ∷ more) h =
-    let a = h.1.0 in
-    let is = h.1.1.0 in
-    let mid = h.1.1.1.0 in
-    let tells = h.1.1.1.1.0 in
+    let tags = h.1.1.0 in
+    let a = act_on h.1.0 tags in
+    let is = h.1.1.1.0 in
+    let mid = h.1.1.1.1.0 in
+    let tells = h.1.1.1.1.1.0 in
     let answer = tells.0 in
     let appends = tells.1.0 in
     let r : Stepped = record { state = mid.state; answer = Some answer } in
-    let w = does_walk mid new lines more h.1.1.1.1.1 in
+    let w = does_walk mid new lines more h.1.1.1.1.1.1 in
     let line : (rest : List AnsweredEntry) → Says (holding (did old.state a answer ∷ rest)) l m.said (holding rest) = λ rest.
     subst (λ (x : ScriptLine). Says (holding (did old.state a answer ∷ rest)) x m.said (holding rest)) (sym is)
-    (subst (λ said. Says (holding (did old.state a answer ∷ rest)) (act_line l.number a) said (holding rest)) (sym tells.1.1) (line_says old.state l.number a answer rest)) in
+    (subst (λ said. Says (holding (did old.state a answer ∷ rest)) (act_line l.number h.1.0 tags) said (holding rest)) (sym tells.1.1) (line_says old.state l.number h.1.0 tags answer rest)) in
     record {
       entries = Did 1 a ∷ w.entries;
       journal = w.journal ∙ ap (λ j. j ++ w.entries) appends.journal ∙ append_assoc old.journal (Did 1 a ∷ []) w.entries;

@@ -10,8 +10,8 @@ use Rattle.script_text.specs.LegalReport.{HasLegalJournals, LegalReport}
 use Rattle.script_text.specs.Text.{text_of}
 use Rattle.script_text.specs.declared.script.Cause.TheVariants.{NotBuilt}
 use Rattle.script_text.specs.declared.report.Report.{Report}
-use Rattle.script_text.specs.declared.reading.ScriptNo.{ScriptNo}
-use Rattle.script_text.specs.declared.reading.ScriptNo.TheVariants.{Bad, NoMemory as OutOfMemory}
+use Rattle.script_text.specs.declared.reading.fault.ScriptNo.{ScriptNo}
+use Rattle.script_text.specs.declared.reading.fault.ScriptNo.TheVariants.{Bad, NoMemory as OutOfMemory}
 use Rattle.script_runner.specs.Built.{unbuilt_in}
 use Rattle.script_runner.specs.Statuses.{HasRun, IsFinished, IsJudged, status_of}
 use Rattle.script_runner.specs.declared.run.Status.{Status}
@@ -30,7 +30,7 @@ IsReportOf K bytes r = IsOkAnd (script_of bytes) (λ script. LegalReport K scrip
 
 -- the bytes are a script that is carried out
 abbrev pub IsRunnable : List ℕ → Type 0
-IsRunnable bytes = IsOkAnd (script_of bytes) (λ script. unbuilt_in script.threads ≡ None)
+IsRunnable bytes = IsOkAnd (script_of bytes) (λ script. unbuilt_in script ≡ None)
 
 -- How a run over these bytes ends, where no read fails and memory suffices: too long; no script,
 -- from this line on and for this cause; a script with a line that is not carried out yet; or run.
@@ -38,7 +38,7 @@ abbrev pub EndsFor : List ℕ → Status → Type 0
 EndsFor bytes ending =
     MatchBool (nat_lt MOST_INPUT (length bytes)) (ending ≡ status.TooLong)
     (MatchResult (script_of bytes)
-    (λ script. MatchOption (unbuilt_in script.threads) (HasRun ending)
+    (λ script. MatchOption (unbuilt_in script) (HasRun ending)
     (λ line. ending ≡ status.BadScript line NotBuilt))
     (λ bad. ending ≡ status.BadScript bad.line bad.cause))
 
@@ -46,7 +46,7 @@ EndsFor bytes ending =
 abbrev pub IsRefusedFor : List ℕ → ScriptNo → Type 0
 IsRefusedFor bytes (Bad line cause) =
     MatchResult (script_of bytes)
-    (λ script. (unbuilt_in script.threads ≡ Some line) × (cause ≡ NotBuilt))
+    (λ script. (unbuilt_in script ≡ Some line) × (cause ≡ NotBuilt))
     (λ bad. bad ≡ record { line = line; cause = cause })
 IsRefusedFor bytes OutOfMemory = ⊤
 

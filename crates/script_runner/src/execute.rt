@@ -2,18 +2,19 @@ ghost use Rattle.std.specs.Prelude.{◌≡◌, ℕ, ◌+◌, ◌*◌, ◌<◌, �
 ghost use Rattle.std.specs.List.{AllByRecursion};
 ghost use Rattle.modeller.specs.Euler.{euler};
 ghost use Rattle.partition.specs.Partition.{Answers};
-ghost use Rattle.script_text.specs.Form.{end_line, lock_line, script_of_thread};
+ghost use Rattle.pk_command.specs.Operands.{act_on as the_act_on};
 ghost use Rattle.script_text.specs.LegalReport.{LegalReport};
-ghost use Rattle.script_runner.specs.Built.{HasForm, IsActLine, IsOneThread, is_built};
+ghost use Rattle.script_runner.specs.Built.{HasForm, IsActLine, IsOneThread, end_line, is_built, lock_line, script_of_thread};
 ghost use Rattle.script_runner.specs.Headline.{IsLawful};
-ghost use Rattle.script_runner.specs.OneThread.{Does, HasRoom, IsRunOf, SaysOf, Tells, report_of_one};
+ghost use Rattle.script_runner.specs.OneThread.{Does, HasRoom, IsRunOf, SaysOf, Tells, digits_in, report_of_one};
 
 use entity_store::Steps;
 use modeller::Euler;
 use partition::Partition;
-use pk_base::{Act, Entry, Fault, Items, NoMemory, Reply};
+use pk_base::{Act, Entry, Fault, Items, NoMemory, Reply, Tag};
+use pk_command::act_on;
 use script_text::{
-    EntryList, Line, LineSaid, Order, PartList, Report, SaidList, Script, ScriptLine,
+    EntryList, Line, LineSaid, Operand, Order, PartList, Report, SaidList, Script, ScriptLine,
 };
 use std::alloc::Global;
 use std::marker::Brand;
@@ -140,10 +141,11 @@ fn do_acts<L: Ledger>(
     ensures held { OnOk result (partition.new.state.holder ≡ Some 1) }
 {
     for line in acts {
-        let Order::On { act, .. } = &line.order else {
+        let Order::On { act, operands, .. } = &line.order else {
             unreachable!()
         };
-        let answer = answer_to(alloc, partition, act, steps)?;
+        let act = with_digits(alloc, act, operands.as_slice())?;
+        let answer = answer_to(partition, act, steps)?;
         said.push(Line {
             number: line.number,
             said: answer,
@@ -152,37 +154,55 @@ fn do_acts<L: Ledger>(
     Ok(())
 }
 
+/// The act with the tags of its operands in their places.
+fn with_digits(alloc: Global, act: &Act, operands: &[Operand]) -> Result<Act, NoMemory>
+    ensures { IfOk result (λ a. a ≡ the_act_on act.now (digits_in operands.now)) }
+{
+    act_on(alloc, act, &digits_in(alloc, operands)?)
+}
+
+/// The tags of those operands that are digits.
+fn digits_in(alloc: Global, operands: &[Operand]) -> Result<Vec<Tag>, NoMemory>
+    ensures { IfOk result (λ tags. tags.items ≡ digits_in operands.now) }
+{
+    let mut tags = Vec::new(alloc);
+    for operand in operands {
+        if let Operand::Digits(tag) = operand {
+            tags.push(*tag)?;
+        }
+    }
+    Ok(tags)
+}
+
 /// Does an act, and says its reply or its refusal.
 fn answer_to<L: Ledger>(
-    alloc: Global,
     partition: &mut Partition<Euler>,
-    act: &Act,
+    act: Act,
     steps: &mut Steps<L>,
 ) -> Result<LineSaid, NoMemory>
-    requires built { is_built act.now ≡ true }
+    requires built { is_built act ≡ true }
     requires held { partition.old.state.holder ≡ Some 1 }
     requires room { HasRoom partition.old.state 1 }
-    ensures { IfOk result (λ said. Tells euler partition.old act.now said partition.new) }
+    ensures { IfOk result (λ said. Tells euler partition.old act said partition.new) }
 {
-    said_of(do_act(alloc, partition, act, steps))
+    said_of(do_act(partition, act, steps))
 }
 
 /// Does an act.
 fn do_act<L: Ledger>(
-    alloc: Global,
     partition: &mut Partition<Euler>,
-    act: &Act,
+    act: Act,
     steps: &mut Steps<L>,
 ) -> Result<Reply, Fault>
-    requires built { is_built act.now ≡ true }
+    requires built { is_built act ≡ true }
     requires held { partition.old.state.holder ≡ Some 1 }
     requires room { HasRoom partition.old.state 1 }
-    ensures { Answers euler partition.old act.now result partition.new }
+    ensures { Answers euler partition.old act result partition.new }
 {
     match act {
-        Act::Call(call) => partition.call(call.copy(alloc)?, steps),
+        Act::Call(call) => partition.call(call, steps),
         Act::Mark => partition.mark(steps),
-        Act::Goto(m) => partition.goto(*m, steps),
+        Act::Goto(m) => partition.goto(m, steps),
         Act::Unmark(_) | Act::Marks | Act::Delta(_) => unreachable!(),
     }
 }

@@ -5,10 +5,9 @@ ghost use Rattle.pk_outside.specs.Outside.{Grows, HasFailed};
 ghost use Rattle.script_text.specs.Form.{script_of};
 ghost use Rattle.script_text.specs.Text.{text_of};
 ghost use Rattle.script_runner.specs.Statuses.{is_refused, number_of_status, status_of, status_of_no};
-ghost use Rattle.script_runner.specs.Built.{HasForm, unbuilt_in};
 ghost use Rattle.script_runner.specs.Headline.{HasCause, IsLawful, IsReported, IsReportOf, JudgesAs, WasRead, WasWritten};
 
-use crate::built::unbuilt_in_threads;
+use crate::built::unbuilt_in;
 use crate::execute::execute;
 use pk_outside::{Failed, ReadNo, Sink, Source, read_all, write_all};
 use script_text::{Cause, LineSaid, Report, SaidList, ScriptNo, Text, read_script, report_text};
@@ -23,8 +22,8 @@ pub enum Status {
     SomeRefused,
     /// The words are not those of this program.
     BadWords,
-    /// The input is no script: the first line that is not as its place asks. Or it is one, and this
-    /// is its first line that is not carried out yet.
+    /// The input is no script: its first line that offends, and why. Or it is one, and this is its
+    /// first line that is not carried out yet, with the cause `NotBuilt`.
     BadScript { line: u32, cause: Cause },
     /// A read failed.
     ReadFault,
@@ -136,7 +135,7 @@ fn report_of(alloc: Global, bytes: &[u8]) -> Result<(Report, Text), ScriptNo>
     ensures judged { JudgesAs bytes.now result }
 {
     let script = read_script(alloc, bytes)?;
-    if let Some(line) = unbuilt_in_threads(script.threads.as_slice()) {
+    if let Some(line) = unbuilt_in(&script) {
         return Err(ScriptNo::Bad {
             line,
             cause: Cause::NotBuilt,

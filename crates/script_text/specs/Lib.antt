@@ -1,5 +1,5 @@
 -- In reading order.
-pub mod Pieces
+pub mod Lines
 pub mod Numbers
 pub mod FieldWords
 pub mod Form

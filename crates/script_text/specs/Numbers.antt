@@ -1,10 +1,14 @@
 -- Numbers by their digits.
-use Rattle.std.specs.Prelude.{ℕ, ◌+◌, ◌-◌, ◌*◌, ◌^◌, nat_lt, nat_le, ◌==◌, ◌&&◌, Bool, if◌then◌else◌, List, [], ◌∷◌, Option, None, Some, option_map, ℤ, pos, neg_ℤ}
+use Rattle.std.specs.Prelude.{ℕ, ◌+◌, ◌-◌, ◌*◌, ◌^◌, nat_lt, nat_le, ◌==◌, ◌&&◌, Bool, false, if◌then◌else◌, List, [], ◌∷◌, Option, None, Some, option_map, ℤ, pos, neg_ℤ}
 use Rattle.std.specs.Option.{option_and_then}
 use Rattle.std.specs.List.{list_all}
 
 abbrev pub is_digit : ℕ → Bool
 is_digit b = nat_le 48 b && nat_le b 57
+
+abbrev pub begins_with_digit : List ℕ → Bool
+begins_with_digit [] = false
+begins_with_digit (b ∷ bs) = is_digit b
 
 abbrev pub digits_value : ℕ → List ℕ → ℕ
 digits_value front [] = front
@@ -18,6 +22,10 @@ digits_of (d ∷ ds) = if list_all is_digit (d ∷ ds) then Some (digits_value 0
 -- a number that is below a limit
 abbrev pub below : ℕ → Option ℕ → Option ℕ
 below limit o = option_and_then (λ n. if nat_lt n limit then Some n else None) o
+
+-- one or more digits, which fit 32 bits
+abbrev pub small_number_of : List ℕ → Option ℕ
+small_number_of word = below (2 ^ 32) (digits_of word)
 
 -- an optional `-` and one or more digits, which fit a signed number of 64 bits
 abbrev pub number_of : List ℕ → Option ℤ

@@ -1,51 +1,66 @@
--- The words of the clauses on reading: a list cut at its first separator, the words that are left
--- of a line, and what a reader answers.
-use Rattle.std.specs.Prelude.{◌≡◌, ℕ, if◌then◌else◌, List, [], ◌∷◌, ◌++◌, Option, None, Some, option_map, Result, Ok, Err, bytes_eq, ok_or}
+-- The words of the clauses on reading.
+use Rattle.std.specs.Prelude.{◌≡◌, ℕ, List, [], ◌∷◌, Option, option_map, map, Result, Ok, Err, ok_or}
+use Rattle.std.specs.Result.{result_map_both}
+use Rattle.std.specs.Borrow.{Bor}
 use Rattle.pk_base.specs.declared.entity.Pair.{Pair}
-use Rattle.script_text.specs.Pieces.{Pieces, words_of}
-use Rattle.script_text.specs.FieldWords.{pair_of}
-use Rattle.script_text.specs.Form.{BadLine, bad}
-use Rattle.script_text.specs.declared.reading.ScriptNo.{ScriptNo}
-use Rattle.script_text.specs.declared.reading.ScriptNo.TheVariants.{Bad, NoMemory}
+use Rattle.script_text.specs.FieldWords.{Spelled, pair_of}
+use Rattle.script_text.specs.Form.{BadLine, Bound, Draft}
+use Rattle.script_text.specs.declared.script.Cause.{Cause}
+use Rattle.script_text.specs.declared.script.Cause.TheVariants.{BadNumber, WordCount}
+use Rattle.script_text.specs.declared.reading.draft.Draft.{Draft as DraftHeld}
+use Rattle.script_text.specs.declared.reading.fields.Spelled.{Spelled as SpelledHeld}
+use Rattle.script_text.specs.declared.reading.fault.ScriptNo.{ScriptNo}
+use Rattle.script_text.specs.declared.reading.fault.ScriptNo.TheVariants as no
+use Rattle.script_text.specs.declared.reading.fault.LineFault.{LineFault}
+use Rattle.script_text.specs.declared.reading.fault.LineFault.TheVariants as fault
 
--- the first piece, where one is ended, and the pieces after it
-abbrev pub first_piece : Pieces → Option (List ℕ × Pieces)
-first_piece p = elim p.ended [
-  | [] ↦ None
-  | piece ∷ pieces ↦ Some (piece, record { ended = pieces; rest = p.rest })
-]
+-- the words that a slice of slices holds
+abbrev pub words_now : List (Bor (List ℕ)) → List (List ℕ)
+words_now words = map (λ w. w.now) words
 
--- the pieces after the first, where that is this text
-abbrev pub after_text : List ℕ → Option (List ℕ × Pieces) → Option Pieces
-after_text text None = None
-after_text text (Some p) = if bytes_eq p.0 text then Some p.1 else None
+-- what was read of a command, with its lists that grow and the words in slices
+abbrev pub spelled_now : SpelledHeld → Spelled
+spelled_now s =
+    record { fields = s.fields.items; operands = s.operands.items; left = words_now s.left.now }
 
--- the words of what is left of a line; there are none where nothing is left
-abbrev pub words_left : Option (List ℕ) → List (List ℕ)
-words_left None = []
-words_left (Some rest) = words_of rest
+-- the corner at the front of the words
+abbrev pub first_corner : List (List ℕ) → Result Pair Cause
+first_corner [] = Err WordCount
+first_corner (x ∷ []) = Err WordCount
+first_corner (x ∷ y ∷ words) = ok_or (pair_of x y) BadNumber
 
--- the corner at the front of the words, and the words after it
-abbrev pub first_corner : List (List ℕ) → Option (Pair × List (List ℕ))
-first_corner [] = None
-first_corner (x ∷ []) = None
-first_corner (x ∷ y ∷ words) = option_map (λ p. (p, words)) (pair_of x y)
+-- the words without a name, and the name, that slices hold
+abbrev pub bound_now : List (Bor (List ℕ)) → Option (Bor (List ℕ)) → Bound
+bound_now words name = record { words = words_now words; name = option_map (λ w. w.now) name }
 
--- the lines before, and then those that the rest of the input gives
-abbrev pub behind : {A : Type 0} → List A → Result (List A) BadLine → Result (List A) BadLine
-behind before (Ok more) = Ok (before ++ more)
-behind before (Err e) = Err e
+-- the draft with its finished lists and those that grow
+abbrev pub draft_now : DraftHeld → Draft
+draft_now d = record {
+  stage = d.stage;
+  n = d.n;
+  last = d.last;
+  schedule = d.schedule;
+  threads = d.threads.items;
+  lines = d.lines.items;
+}
 
--- the pieces after line k, which is to be this text
-abbrev pub line_at : ℕ → List ℕ → Pieces → Result Pieces BadLine
-line_at k text p = ok_or (after_text text (first_piece p)) (bad k)
+-- A reader that takes no memory answers what the form says, seen by view.
+abbrev pub Gives : {A B : Type 0} → (A → B) → Result A Cause → Result B Cause → Type 0
+Gives view result form = result_map_both view (λ c. c) result ≡ form
 
--- the error is the first line that is not of the form, or memory ran out
-abbrev pub Fails : {B : Type 0} → ScriptNo → Result B BadLine → Type 0
-Fails (Bad line cause) form = form ≡ Err (record { line = line; cause = cause })
-Fails NoMemory form = Unit {0}
+-- a fault of line k
+abbrev pub fault_at : ℕ → LineFault → ScriptNo
+fault_at k (fault.Bad cause) = no.Bad k cause
+fault_at k fault.NoMemory = no.NoMemory
 
--- A reader answers what the form says, seen by view, unless memory ran out.
+-- A reader of a line answers what the form says, seen by view, unless memory ran out.
+abbrev pub Takes : {A B : Type 0} → (A → B) → Result A LineFault → Result B Cause → Type 0
+Takes view (Ok x) form = form ≡ Ok (view x)
+Takes view (Err (fault.Bad cause)) form = form ≡ Err cause
+Takes view (Err fault.NoMemory) form = Unit {0}
+
+-- A reader of lines answers what the form says, seen by view, unless memory ran out.
 abbrev pub Reads : {A B : Type 0} → (A → B) → Result A ScriptNo → Result B BadLine → Type 0
 Reads view (Ok x) form = form ≡ Ok (view x)
-Reads view (Err e) form = Fails e form
+Reads view (Err (no.Bad line cause)) form = form ≡ Err (record { line = line; cause = cause })
+Reads view (Err no.NoMemory) form = Unit {0}

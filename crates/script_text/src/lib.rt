@@ -3,6 +3,7 @@
 #![tactic(auto)]
 
 pub use laws::a_text_is_of_one_report;
+pub use limits::{MOST_LINE_BYTES, MOST_LINES, MOST_NAME_BYTES, MOST_PARTITIONS, MOST_THREADS};
 pub use printing::{Text, report_text};
 pub use reading::{ScriptNo, read_script};
 pub use report::{
@@ -13,6 +14,7 @@ pub use script::{
 };
 
 mod laws;
+mod limits;
 mod printing;
 mod reading;
 mod report;

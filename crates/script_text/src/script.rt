@@ -1,10 +1,48 @@
 use pk_base::{Act, Items, Name, Tag};
 use thiserror::Error;
 
-/// Why bytes are no script.
+/// Why a line is no line of a script, or is not carried out. Of the first twelve, those that apply
+/// to a line are tried in this order.
 #[derive(Clone, Copy, Debug, PartialEq, Eq, Error)]
 pub enum Cause {
-    /// The line is not of the form that is read so far.
+    /// The line's number is above 65,536.
+    #[error("TooManyLines")]
+    TooManyLines,
+    /// The line has more than 16,384 bytes.
+    #[error("LongLine")]
+    LongLine,
+    /// A byte is neither a tab nor one that prints, in a line that is no comment.
+    #[error("BadByte")]
+    BadByte,
+    /// The first line that says something is not `session`.
+    #[error("NoSession")]
+    NoSession,
+    /// Between the scripts of threads, the first word is neither `thread` nor, right behind the
+    /// header, `schedule`; or the input ends without a thread.
+    #[error("NoThread")]
+    NoThread,
+    /// The thread is one more than the most.
+    #[error("TooManyThreads")]
+    TooManyThreads,
+    /// `thread` stands within the script of a thread, or the input ends there.
+    #[error("Unended")]
+    Unended,
+    /// A thread's line begins with no word that it may begin with, or its command is none.
+    #[error("UnknownCommand")]
+    UnknownCommand,
+    /// The line has too few words, or too many.
+    #[error("WordCount")]
+    WordCount,
+    /// A number, a partition or a tag of digits is none, or does not fit.
+    #[error("BadNumber")]
+    BadNumber,
+    /// A name, an axis or a named tag is none.
+    #[error("BadName")]
+    BadName,
+    /// The header's numbers are outside their ranges.
+    #[error("BadSession")]
+    BadSession,
+    /// The line is good, and is not carried out yet.
     #[error("NotBuilt")]
     NotBuilt,
 }

@@ -1,5 +1,5 @@
 ghost use Rattle.std.specs.Prelude.{◌≡◌, ◌↔◌, IfSome, IsSome};
-ghost use Rattle.session_script.specs.Line.{text_of_line};
+ghost use Rattle.session_script.specs.Line.{name_of, text_of_line};
 
 use script_runner::Status;
 use script_text::Cause;
@@ -34,14 +34,35 @@ impl fmt::Display for Line {
         match self.status {
             Status::Done | Status::SomeRefused => Ok(()),
             Status::BadWords => write!(f, "bad words"),
-            Status::BadScript {
-                line,
-                cause: Cause::NotBuilt,
-            } => write!(f, "bad script: line {line}: NotBuilt"),
+            Status::BadScript { line, cause } => {
+                let name = name_of(cause);
+                write!(f, "bad script: line {line}: {name}")
+            }
             Status::ReadFault => write!(f, "read fault"),
             Status::WriteFault => write!(f, "write fault"),
             Status::NoMemory => write!(f, "no memory"),
             Status::TooLong => write!(f, "too long"),
         }
+    }
+}
+
+/// The name of a cause.
+pub(crate) fn name_of(cause: Cause) -> &'static str
+    ensures { result.now ≡ name_of cause }
+{
+    match cause {
+        Cause::TooManyLines => "TooManyLines",
+        Cause::LongLine => "LongLine",
+        Cause::BadByte => "BadByte",
+        Cause::NoSession => "NoSession",
+        Cause::NoThread => "NoThread",
+        Cause::TooManyThreads => "TooManyThreads",
+        Cause::Unended => "Unended",
+        Cause::UnknownCommand => "UnknownCommand",
+        Cause::WordCount => "WordCount",
+        Cause::BadNumber => "BadNumber",
+        Cause::BadName => "BadName",
+        Cause::BadSession => "BadSession",
+        Cause::NotBuilt => "NotBuilt",
     }
 }

@@ -1,5 +1,7 @@
 use super::*;
+use line::name_of;
 use pk_outside::MemSink;
+use script_text::Cause;
 use std::cell::RefCell;
 use std::env::FillError;
 use std::fmt::Display;
@@ -60,7 +62,21 @@ fn the_program_ends_with_its_number_and_says_why(rt: HostRuntime) -> Result<(), 
             b"thread\n",
             3,
             b"",
-            b"bad script: line 1: NotBuilt\n",
+            b"bad script: line 1: NoSession\n",
+        ),
+        (
+            &["p", "--serial"],
+            b"session 1 1\nthread\nlock 1\n1 goto\nend\n",
+            3,
+            b"",
+            b"bad script: line 4: WordCount\n",
+        ),
+        (
+            &["p", "--serial"],
+            b"session 1 1\nthread\nlock 1\n1 marks\nend\n",
+            3,
+            b"",
+            b"bad script: line 4: NotBuilt\n",
         ),
         (&["p"], REFUSED, 2, b"", b"bad words\n"),
         (
@@ -84,6 +100,29 @@ fn the_program_ends_with_its_number_and_says_why(rt: HostRuntime) -> Result<(), 
         assert_eq!(rt; code, ExitCode::from(number));
         assert_eq!(rt; written.as_slice(), report);
         assert_eq!(rt; started.0.told.into_inner().as_slice(), told);
+    }
+    Ok(())
+}
+
+#[test]
+fn a_cause_has_the_name_that_it_shows(rt: HostRuntime) -> Result<(), Fail> {
+    for cause in [
+        Cause::TooManyLines,
+        Cause::LongLine,
+        Cause::BadByte,
+        Cause::NoSession,
+        Cause::NoThread,
+        Cause::TooManyThreads,
+        Cause::Unended,
+        Cause::UnknownCommand,
+        Cause::WordCount,
+        Cause::BadNumber,
+        Cause::BadName,
+        Cause::BadSession,
+        Cause::NotBuilt,
+    ] {
+        let shown = format!(in rt.alloc(); "{cause}")?;
+        assert_eq!(rt; name_of(cause), shown.as_str());
     }
     Ok(())
 }

@@ -13,9 +13,6 @@ const FIRST: &[u8] =
 const FIRST_REPORT: &[u8] =
     b"report 1 1\nthread 1\n3 locked\n4 made 65-69\n5 made 70\n6 made 71-75\n7 went fresh - gone 71-75 changed -\n8 went fresh - gone 65-69 changed -\n9 ended 1\npartition 1\nclaimed 1\ndid 1 mvfs 0 0 0\ndid 1 mark\ndid 1 mvfs 1 0 0\ndid 1 goto 70\ndid 1 goto 64\nreleased 1\nend\n";
 
-const THIRTEEN_ACTS: &[u8] =
-    b"session 1 1\nthread\nlock 1\n1 mark\n1 mark\n1 mark\n1 mark\n1 mark\n1 mark\n1 mark\n1 mark\n1 mark\n1 mark\n1 mark\n1 mark\n1 mark\nend\n";
-
 const NOT_BUILT: Cause = Cause::NotBuilt;
 
 /// Runs with the word of the program.
@@ -107,75 +104,115 @@ fn refuses_and_goes_on(rt: HostRuntime) -> Result<(), Fail> {
     Ok(())
 }
 
+/// Each of these inputs is refused on its line, for its cause, and nothing is written.
+fn refuses(rt: &impl Abort, alloc: Global, inputs: &[(&str, u32, Cause)]) -> Result<(), NoMemory> {
+    for (input, line, cause) in inputs {
+        let status = Status::BadScript {
+            line: *line,
+            cause: *cause,
+        };
+        assert_eq!(rt;
+            status_of(rt, alloc, input.as_bytes(), b"")?,
+            status,
+            "{input}"
+        );
+    }
+    Ok(())
+}
+
 #[test]
 fn a_bad_script_writes_nothing(rt: HostRuntime) -> Result<(), Fail> {
-    let thirteen = Status::BadScript {
-        line: 16,
-        cause: NOT_BUILT,
-    };
-    assert_eq!(rt; status_of(&rt, rt.alloc(), THIRTEEN_ACTS, b"")?, thirteen);
-    let empty = Status::BadScript {
-        line: 1,
-        cause: NOT_BUILT,
-    };
-    assert_eq!(rt; status_of(&rt, rt.alloc(), b"", b"")?, empty);
+    refuses(
+        &rt,
+        rt.alloc(),
+        &[
+            ("", 1, Cause::NoSession),
+            ("session 0 1\n", 1, Cause::BadSession),
+            ("session 1 1\n", 2, Cause::NoThread),
+            ("session 1 1\nthread\nlock 1\n", 4, Cause::Unended),
+            (
+                "session 1 1\nthread\nlock 1\n1 blo\nend\n",
+                4,
+                Cause::UnknownCommand,
+            ),
+            (
+                "session 1 1\nthread\nlock 1\n1 mvfs 0 0\nend\n",
+                4,
+                Cause::WordCount,
+            ),
+            (
+                "session 1 1\nthread\nlock 1\nend\nend\n",
+                5,
+                Cause::NoThread,
+            ),
+            // A line of the thread is not carried out yet, and a later one is none.
+            (
+                "session 1 1\nthread\nlock 1\n1 bodies\n1 blo\nend\n",
+                5,
+                Cause::UnknownCommand,
+            ),
+        ],
+    )?;
+    Ok(())
+}
+
+#[test]
+fn a_header_that_is_not_carried_out_yet_is_told_of_the_first_thread(
+    rt: HostRuntime,
+) -> Result<(), Fail> {
+    refuses(
+        &rt,
+        rt.alloc(),
+        &[
+            ("session 2 2\nthread\nlock 1\nend\n", 3, NOT_BUILT),
+            ("session 1 2\nthread\nlock 1\nend\n", 3, NOT_BUILT),
+            (
+                "session 1 1\nschedule 1\nthread\nlock 1\nend\n",
+                4,
+                NOT_BUILT,
+            ),
+            ("session 2 2\nthread\nlock 1\n1 marks\nend\n", 3, NOT_BUILT),
+            (
+                "session 2 2\n\n# one\nthread\n\nlock 1\nend\nthread\nend\n",
+                6,
+                NOT_BUILT,
+            ),
+        ],
+    )?;
     Ok(())
 }
 
 #[test]
 fn a_line_that_is_not_carried_out_yet_writes_nothing(rt: HostRuntime) -> Result<(), Fail> {
-    let fourth = Status::BadScript {
-        line: 4,
-        cause: NOT_BUILT,
-    };
-    let fifth = Status::BadScript {
-        line: 5,
-        cause: NOT_BUILT,
-    };
-    for (script, status) in [
-        (
-            "1 block 0 0 0 2 3 4
-1 mark
-end
-",
-            fourth,
-        ),
-        (
-            "1 mark
-1 unmark 65
-end
-",
-            fifth,
-        ),
-        (
-            "1 mvfs 0 0 0
-1 set 65 colour 7
-end
-",
-            fifth,
-        ),
-        (
-            "1 marks
-1 delta 64
-end
-",
-            fourth,
-        ),
-        (
-            "1 bodies
-no command
-end
-",
-            fifth,
-        ),
+    for (lines, line) in [
+        ("end\n", 3),
+        ("1 mark\nend\n", 3),
+        ("lock 2\nend\n", 3),
+        ("unlock 1\nend\n", 3),
+        ("lock 1\nlock 1\nend\n", 4),
+        ("lock 1\n1 mark\nunlock 1\nend\n", 5),
+        ("lock 1\n2 mark\nend\n", 4),
+        ("lock 1\n1 block 0 0 0 2 3 4\n1 mark\nend\n", 4),
+        ("lock 1\n1 mark\n1 unmark 65\nend\n", 5),
+        ("lock 1\n1 mvfs 0 0 0\n1 set 65 colour 7\nend\n", 5),
+        ("lock 1\n1 marks\n1 delta 64\nend\n", 4),
+        ("lock 1\n1 mark\n1 mvfs 0 0 0 as b\nend\n", 5),
+        ("lock 1\n1 mvfs 0 0 0\n1 kvfs b\nend\n", 5),
+        ("lock 1\n1 mvfs 0 0 0\n1 kvfs b.1\nend\n", 5),
+        ("lock 1\nend\nthread\nlock 1\nend\n", 6),
+        ("lock 1\n1 marks\nend\nthread\nlock 1\nend\n", 4),
     ] {
-        let script = format!(in rt.alloc(); "session 1 1\nthread\nlock 1\n{script}")?;
-        assert_eq!(rt;
-            status_of(&rt, rt.alloc(), script.as_bytes(), b"")?,
-            status,
-            "{script}"
-        );
+        let input = format!(in rt.alloc(); "session 1 1\nthread\n{lines}")?;
+        refuses(&rt, rt.alloc(), &[(input.as_str(), line, NOT_BUILT)])?;
     }
+    Ok(())
+}
+
+#[test]
+fn a_thirteenth_act_is_not_carried_out_yet(rt: HostRuntime) -> Result<(), Fail> {
+    let thirteen =
+        "session 1 1\nthread\nlock 1\n1 mark\n1 mark\n1 mark\n1 mark\n1 mark\n1 mark\n1 mark\n1 mark\n1 mark\n1 mark\n1 mark\n1 mark\n1 mark\nend\n";
+    refuses(&rt, rt.alloc(), &[(thirteen, 16, NOT_BUILT)])?;
     Ok(())
 }
 

@@ -1,151 +1,175 @@
 //! The fields of a command, by their words.
-ghost use Rattle.std.specs.Prelude.{◌≡◌, ◌-◌, ◌≤◌, nat_le, ◌&&◌, ◌++◌, length, replicate, IfOk, option_copied, option_map};
-ghost use Rattle.std.specs.List.{list_all};
-ghost use Rattle.script_text.specs.Pieces.{words_of};
-ghost use Rattle.script_text.specs.FieldWords.{axis_of, corners_of, field_from as field_by, fields_from as fields_by, is_letter as letter, is_name_byte as name_byte, name_of};
-ghost use Rattle.script_text.specs.Reading.{first_corner as corner_by, words_left};
+ghost use Rattle.std.specs.Prelude.{◌≡◌, ◌++◌, [], ◌∷◌, length, map, IfOk, ok_or, Ok};
+ghost use Rattle.script_text.specs.FieldWords.{after_field, after_fields, axis_of, corners_after, fits as fits_by, is_even as even, pair_of, point_words, spelled as spelled_by, tag_word, triple_of, width_of, with_field as with_field_by, with_operand as with_operand_by};
+ghost use Rattle.script_text.specs.Reading.{first_corner as corner_first, words_now, spelled_now, Takes};
+ghost use Rattle.script_text.specs.declared.script.Cause.TheVariants.{BadNumber, BadName};
 ghost use Rattle.pk_command.specs.declared.field.Kind.TheVariants as kind;
 
-use super::numbers::{number, tag};
-use super::pieces::first_word;
-use pk_base::{Axis, CornerList, Name, NoMemory, Pair, Tag, Triple};
+use super::fault::LineFault;
+use super::names::{name, operand, tag_in_act};
+use super::numbers::number;
+use crate::{Cause, Operand};
+use pk_base::{Axis, CornerList, Pair, Triple};
 use pk_command::{Field, Kind};
 use std::alloc::Global;
 
-/// The fields of these kinds, where they take all the words; else `None`.
-pub(crate) fn fields_from(
-    alloc: Global,
-    kinds: &[Kind],
-    words: Option<&[u8]>,
-) -> Result<Option<Vec<Field>>, NoMemory>
-    ensures { IfOk result (λ found. option_map (λ fields. fields.items) found
-        ≡ fields_by kinds.now (words_left (option_copied words.entry))) }
+/// Whether fields of these kinds have so many words.
+pub(crate) fn fits(kinds: &[Kind], words: usize) -> bool
+    ensures { result ≡ fits_by kinds.now words }
 {
-    let mut fields = Vec::new(alloc);
     let mut left = words;
     for kind in kinds {
-        let Some((field, after)) = field_from(alloc, *kind, left)? else {
-            return Ok(None);
-        };
-        fields.push(field)?;
-        left = after;
+        if *kind == Kind::Corners {
+            return left % 2 == 0;
+        }
+        match left.checked_sub(width(*kind)) {
+            Some(after) => left = after,
+            None => return false,
+        }
     }
-    match left {
-        None => Ok(Some(fields)),
-        Some(_) => Ok(None),
-    }
+    left == 0
 }
 
-/// The field of this kind at the front of the words, and what is left after it.
-fn field_from<'a>(
-    alloc: Global,
-    kind: Kind,
-    words: Option<&'a [u8]>,
-) -> Result<Option<(Field, Option<&'a [u8]>)>, NoMemory>
-    ensures { IfOk result (λ found. option_map (λ p. (p.0, words_left (option_copied p.1))) found
-        ≡ field_by kind (words_left (option_copied words.entry))) }
+/// How many words a field of this kind has; corners take what the others leave.
+fn width(kind: Kind) -> usize
+    ensures { result ≡ width_of kind }
 {
     match kind {
-        Kind::Tag => Ok(tag_from(words)),
-        Kind::Number => Ok(number_from(words)),
-        Kind::Point => Ok(point_from(words)),
-        Kind::Corners => corners_from(alloc, words),
-        Kind::Axis => Ok(axis_from(words)),
-        Kind::Name => Ok(name_from(words)),
+        Kind::Tag | Kind::Number | Kind::Axis | Kind::Name => 1,
+        Kind::Point => 3,
+        Kind::Corners => 0,
     }
 }
 
-fn tag_from<'a>(words: Option<&'a [u8]>) -> Option<(Field, Option<&'a [u8]>)>
-    ensures { option_map (λ p. (p.0, words_left (option_copied p.1))) result
-        ≡ field_by kind.Tag (words_left (option_copied words.entry)) }
-{
-    let (word, after) = first_word(words?);
-    Some((Field::Tag(Tag(tag(word)?)), after))
+/// What was read of a command: its fields, its tag operands from left to right, and the words that
+/// are left.
+#[derive(Debug, Drop)]
+pub(crate) struct Spelled<'a> {
+    pub(crate) fields: Vec<Field>,
+    pub(crate) operands: Vec<Operand>,
+    left: &'a [&'a [u8]],
 }
 
-fn number_from<'a>(words: Option<&'a [u8]>) -> Option<(Field, Option<&'a [u8]>)>
-    ensures { option_map (λ p. (p.0, words_left (option_copied p.1))) result
-        ≡ field_by kind.Number (words_left (option_copied words.entry)) }
-{
-    let (word, after) = first_word(words?);
-    Some((Field::Number(number(word)?), after))
-}
-
-fn point_from<'a>(words: Option<&'a [u8]>) -> Option<(Field, Option<&'a [u8]>)>
-    ensures { option_map (λ p. (p.0, words_left (option_copied p.1))) result
-        ≡ field_by kind.Point (words_left (option_copied words.entry)) }
-{
-    let (x, words) = first_word(words?);
-    let (y, words) = first_word(words?);
-    let (z, after) = first_word(words?);
-    let point = Triple {
-        x: number(x)?,
-        y: number(y)?,
-        z: number(z)?,
-    };
-    Some((Field::Point(point), after))
-}
-
-fn corners_from<'a>(
+/// The fields of these kinds by their words, from left to right.
+pub(crate) fn read_fields<'a>(
     alloc: Global,
-    words: Option<&'a [u8]>,
-) -> Result<Option<(Field, Option<&'a [u8]>)>, NoMemory>
-    ensures { IfOk result (λ found. option_map (λ p. (p.0, words_left (option_copied p.1))) found
-        ≡ field_by kind.Corners (words_left (option_copied words.entry))) }
+    kinds: &[Kind],
+    words: &'a [&'a [u8]],
+) -> Result<Spelled<'a>, LineFault>
+    ensures { Takes spelled_now result (spelled_by kinds.now (words_now words.now)) }
 {
-    match corners(alloc, words)? {
-        None => Ok(None),
-        Some(corners) => Ok(Some((Field::Corners(corners), None))),
+    let mut spelled = Spelled {
+        fields: Vec::new(alloc),
+        operands: Vec::new(alloc),
+        left: words,
+    };
+    for kind in kinds {
+        spelled = spelled.take(alloc, *kind)?;
+    }
+    Ok(spelled)
+}
+
+impl<'a> Spelled<'a> {
+    /// The field of this kind at the front of the words that are left. Corners take them all.
+    fn take(self, alloc: Global, kind: Kind) -> Result<Spelled<'a>, LineFault>
+        ensures { Takes spelled_now result (after_field kind (spelled_now self.entry)) }
+    {
+        match kind {
+            Kind::Tag => self.take_tag(),
+            Kind::Number => self.take_number(),
+            Kind::Point => self.take_point(),
+            Kind::Corners => self.take_corners(alloc),
+            Kind::Axis => self.take_axis(),
+            Kind::Name => self.take_name(),
+        }
+    }
+
+    fn take_tag(mut self) -> Result<Spelled<'a>, LineFault>
+        ensures { Takes spelled_now result (after_field kind.Tag (spelled_now self.entry)) }
+    {
+        let (word, left) = self.left.split_first().ok_or(Cause::WordCount)?;
+        let operand = operand(word)?;
+        self.operands.push(operand)?;
+        self.with_field(Field::Tag(tag_in_act(operand)), left)
+    }
+
+    fn take_number(self) -> Result<Spelled<'a>, LineFault>
+        ensures { Takes spelled_now result (after_field kind.Number (spelled_now self.entry)) }
+    {
+        let (word, left) = self.left.split_first().ok_or(Cause::WordCount)?;
+        let number = number(word).ok_or(Cause::BadNumber)?;
+        self.with_field(Field::Number(number), left)
+    }
+
+    fn take_point(self) -> Result<Spelled<'a>, LineFault>
+        ensures { Takes spelled_now result (after_field kind.Point (spelled_now self.entry)) }
+    {
+        let (x, words) = self.left.split_first().ok_or(Cause::WordCount)?;
+        let (y, words) = words.split_first().ok_or(Cause::WordCount)?;
+        let (z, left) = words.split_first().ok_or(Cause::WordCount)?;
+        let point = triple(x, y, z).ok_or(Cause::BadNumber)?;
+        self.with_field(Field::Point(point), left)
+    }
+
+    fn take_corners(self, alloc: Global) -> Result<Spelled<'a>, LineFault>
+        ensures { Takes spelled_now result (after_field kind.Corners (spelled_now self.entry)) }
+    {
+        let corners = corners(alloc, self.left)?;
+        self.with_field(Field::Corners(corners), &[])
+    }
+
+    fn take_axis(self) -> Result<Spelled<'a>, LineFault>
+        ensures { Takes spelled_now result (after_field kind.Axis (spelled_now self.entry)) }
+    {
+        let (word, left) = self.left.split_first().ok_or(Cause::WordCount)?;
+        let axis = axis(word).ok_or(Cause::BadName)?;
+        self.with_field(Field::Axis(axis), left)
+    }
+
+    fn take_name(self) -> Result<Spelled<'a>, LineFault>
+        ensures { Takes spelled_now result (after_field kind.Name (spelled_now self.entry)) }
+    {
+        let (word, left) = self.left.split_first().ok_or(Cause::WordCount)?;
+        let name = name(word).ok_or(Cause::BadName)?;
+        self.with_field(Field::Name(name), left)
+    }
+
+    /// One field more, and these words left.
+    fn with_field(mut self, field: Field, left: &'a [&'a [u8]]) -> Result<Spelled<'a>, LineFault>
+        ensures { Takes spelled_now result
+            (Ok (with_field_by (spelled_now self.entry) (words_now left.now) field)) }
+    {
+        self.fields.push(field)?;
+        Ok(Spelled {
+            fields: self.fields,
+            operands: self.operands,
+            left,
+        })
     }
 }
 
-fn axis_from<'a>(words: Option<&'a [u8]>) -> Option<(Field, Option<&'a [u8]>)>
-    ensures { option_map (λ p. (p.0, words_left (option_copied p.1))) result
-        ≡ field_by kind.Axis (words_left (option_copied words.entry)) }
-{
-    let (word, after) = first_word(words?);
-    Some((Field::Axis(axis(word)?), after))
-}
-
-fn name_from<'a>(words: Option<&'a [u8]>) -> Option<(Field, Option<&'a [u8]>)>
-    ensures { option_map (λ p. (p.0, words_left (option_copied p.1))) result
-        ≡ field_by kind.Name (words_left (option_copied words.entry)) }
-{
-    let (word, after) = first_word(words?);
-    Some((Field::Name(name(word)?), after))
-}
-
-/// The corners that all the words are, two words for each; else `None`.
-fn corners(alloc: Global, words: Option<&[u8]>) -> Result<Option<CornerList>, NoMemory>
-    ensures { IfOk result (λ found. found ≡ corners_of (words_left (option_copied words.entry))) }
+/// Two numbers for each corner.
+fn corners(alloc: Global, words: &[&[u8]]) -> Result<CornerList, LineFault>
+    ensures { Takes (λ corners. corners) result (corners_after [] (words_now words.now)) }
 {
     let mut corners = Vec::new(alloc);
-    let mut left = words;
-    while let Some(line) = left {
-        let Some((corner, after)) = first_corner(line) else {
-            return Ok(None);
-        };
-        corners.push(corner)?;
-        left = after;
+    let mut i = 0;
+    while i < words.len() {
+        corners.push(first_corner(&words[i..])?)?;
+        i += 2;
     }
-    Ok(Some(CornerList::of(corners)))
+    Ok(CornerList::of(corners))
 }
 
-/// The corner at the front of a line, and what is left after it.
-fn first_corner<'a>(line: &'a [u8]) -> Option<(Pair, Option<&'a [u8]>)>
-    ensures { option_map (λ p. (p.0, words_left (option_copied p.1))) result
-        ≡ corner_by (words_of line.now) }
+/// The corner at the front of the words.
+fn first_corner(words: &[&[u8]]) -> Result<Pair, Cause>
+    ensures { result ≡ corner_first (words_now words.now) }
 {
-    let (x, words) = first_word(line);
-    let (y, after) = first_word(words?);
-    let corner = Pair {
-        x: number(x)?,
-        y: number(y)?,
-    };
-    Some((corner, after))
+    let (x, words) = words.split_first().ok_or(Cause::WordCount)?;
+    let y = words.first().ok_or(Cause::WordCount)?;
+    pair(x, y).ok_or(Cause::BadNumber)
 }
 
-/// The axis of a word.
 fn axis(word: &[u8]) -> Option<Axis>
     ensures { result ≡ axis_of word.now }
 {
@@ -160,50 +184,23 @@ fn axis(word: &[u8]) -> Option<Axis>
     }
 }
 
-/// The name that a word is: 1 to 16 bytes, a letter a to z, and behind it such letters, digits and
-/// `_`.
-fn name(word: &[u8]) -> Option<Name>
-    ensures { result ≡ name_of word.now }
+/// Three numbers.
+fn triple(x: &[u8], y: &[u8], z: &[u8]) -> Option<Triple>
+    ensures { result ≡ triple_of x.now y.now z.now }
 {
-    let (first, more) = word.split_first()?;
-    if is_name(*first, more) {
-        Some(Name(padded(word)))
-    } else {
-        None
-    }
+    Some(Triple {
+        x: number(x)?,
+        y: number(y)?,
+        z: number(z)?,
+    })
 }
 
-fn is_name(first: u8, more: &[u8]) -> bool
-    ensures { result
-        ≡ (letter first && (list_all name_byte more.now && nat_le (length more.now) 15)) }
+/// Two numbers.
+fn pair(x: &[u8], y: &[u8]) -> Option<Pair>
+    ensures { result ≡ pair_of x.now y.now }
 {
-    is_letter(first) && are_name_bytes(more) && more.len() <= 15
-}
-
-fn are_name_bytes(bytes: &[u8]) -> bool
-    ensures { result ≡ list_all name_byte bytes.now }
-{
-    bytes.iter().all(|b| is_name_byte(*b))
-}
-
-/// Up to 16 bytes, padded with zeros.
-fn padded(word: &[u8]) -> [u8; 16]
-    requires { length word.now ≤ 16 }
-    ensures { result ≡ word.now ++ replicate (16 - length word.now) 0 }
-{
-    let mut bytes = [0; 16];
-    bytes[..word.len()].copy_from_slice(word);
-    bytes
-}
-
-fn is_letter(b: u8) -> bool
-    ensures { result ≡ letter b }
-{
-    b'a' <= b && b <= b'z'
-}
-
-fn is_name_byte(b: u8) -> bool
-    ensures { result ≡ name_byte b }
-{
-    is_letter(b) || b.is_ascii_digit() || b == b'_'
+    Some(Pair {
+        x: number(x)?,
+        y: number(y)?,
+    })
 }

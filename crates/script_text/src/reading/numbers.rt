@@ -1,6 +1,6 @@
 //! Numbers, by their digits.
 ghost use Rattle.std.specs.Prelude.{◌≡◌, ◌+◌, ◌-◌, ◌*◌, ◌^◌, if◌then◌else◌, option_map, pos, neg_ℤ};
-ghost use Rattle.script_text.specs.Numbers.{is_digit, digits_of, below, number_of};
+ghost use Rattle.script_text.specs.Numbers.{is_digit, digits_of, below, number_of, small_number_of};
 
 /// The number that some digits and one more spell, where it is below 2^64.
 fn with_digit(front: u64, digit: u8) -> Option<u64>
@@ -51,8 +51,8 @@ pub(crate) fn number(word: &[u8]) -> Option<i64>
 }
 
 /// The number of 32 bits that one or more digits spell.
-pub(crate) fn tag(word: &[u8]) -> Option<u32>
-    ensures { result ≡ below (2 ^ 32) (digits_of word.now) }
+pub(crate) fn small_number(word: &[u8]) -> Option<u32>
+    ensures { result ≡ small_number_of word.now }
 {
     u32::try_from(digits(word)?).ok()
 }

@@ -1,37 +1,228 @@
-use super::acts::act_of_line;
 use super::{ScriptNo, read_script};
-use crate::{Cause, EntryList, Operand, Order, Report, ScriptLine, Text, report_text};
-use pk_base::{Entry, Items, NoMemory, Tag};
+use crate::{Cause, EntryList, Operand, Order, Report, Script, ScriptLine, report_text};
+use pk_base::{Act, Entry, Items, Name, NoMemory, Tag};
 use std::alloc::{AllocError, Global};
 use std::test::Fail;
 
-/// The bytes of a script with these lines behind the lock of its thread, which are lines 4 and on.
-fn script(alloc: Global, lines: &str) -> Result<Vec<u8>, AllocError> {
-    let mut bytes = Vec::from_slice(alloc, b"session 1 1\nthread\nlock 1\n".as_slice())?;
-    bytes.extend_from_slice(lines.as_bytes())?;
-    Ok(bytes)
-}
+// A script, and the line that offends with its cause.
+type BadText = (&'static str, u32, Cause);
 
-/// The first line that is not of the form.
-fn bad_line(alloc: Global, bytes: &[u8]) -> Option<u32> {
+// What may stand outside the scripts of threads, and what may not.
+const OUTSIDE: [BadText; 33] = [
+    ("", 1, Cause::NoSession),
+    ("\n", 2, Cause::NoSession),
+    ("# a comment\n\n \t\n", 4, Cause::NoSession),
+    ("thread\n", 1, Cause::NoSession),
+    ("\nSession 1 1\n", 2, Cause::NoSession),
+    ("sessions 1 1\n", 1, Cause::NoSession),
+    ("x 1\nsession 0 1\n", 1, Cause::NoSession),
+    ("session 1 10", 2, Cause::NoThread),
+    ("session 1 10\n# a comment\n", 3, Cause::NoThread),
+    ("session\n", 1, Cause::WordCount),
+    ("session 1\n", 1, Cause::WordCount),
+    ("session 0 x 1\n", 1, Cause::WordCount),
+    ("session -1 1\n", 1, Cause::BadNumber),
+    ("session 1 1x\n", 1, Cause::BadNumber),
+    ("session x 4294967296\n", 1, Cause::BadNumber),
+    ("session 0 4294967296\n", 1, Cause::BadNumber),
+    ("session 0 10\n", 1, Cause::BadSession),
+    ("session 33 33\n", 1, Cause::BadSession),
+    ("session 2 1\n", 1, Cause::BadSession),
+    ("session 32 262144\n", 1, Cause::BadSession),
+    ("session 32 262143\nlock 1\n", 2, Cause::NoThread),
+    ("session 1 1\nsession 1 1\n", 2, Cause::NoThread),
+    ("session 1 1\nend\n", 2, Cause::NoThread),
+    ("session 1 1\nschedule 17\n", 2, Cause::BadNumber),
+    ("session 1 1\nschedule 1 0\n", 2, Cause::BadNumber),
+    ("session 1 1\nschedule 16 x\n", 2, Cause::BadNumber),
+    ("session 1 1\nschedule 16 1\n", 3, Cause::NoThread),
+    ("session 1 1\nschedule\nschedule\n", 3, Cause::NoThread),
+    ("session 1 1\nthread\nend\nschedule 1\n", 4, Cause::NoThread),
+    ("session 1 1\nthread 1\n", 2, Cause::WordCount),
+    ("session 1 1\nthread\nend 1\n", 3, Cause::WordCount),
+    ("session 1 1\nthread\n", 3, Cause::Unended),
+    ("session 1 1\nthread\nthread 1\n", 3, Cause::Unended),
+];
+
+// Line 4 of a script of one thread, which locks partition 1 first.
+const LINES: [(&str, Cause); 46] = [
+    ("", Cause::Unended),
+    ("thread", Cause::Unended),
+    ("1 blo", Cause::UnknownCommand),
+    ("1", Cause::UnknownCommand),
+    ("mark", Cause::UnknownCommand),
+    ("p mark", Cause::UnknownCommand),
+    ("-1 mark", Cause::UnknownCommand),
+    ("1 Mark", Cause::UnknownCommand),
+    ("1 as m", Cause::UnknownCommand),
+    ("1 teleport 65 as 7", Cause::UnknownCommand),
+    ("4294967296 teleport", Cause::UnknownCommand),
+    ("schedule 1", Cause::UnknownCommand),
+    ("session 1 1", Cause::UnknownCommand),
+    ("lock", Cause::WordCount),
+    ("lock 1 2", Cause::WordCount),
+    ("lock 1 as m", Cause::WordCount),
+    ("unlock x y", Cause::WordCount),
+    ("end 1", Cause::WordCount),
+    ("1 mark 65", Cause::WordCount),
+    ("1 mark as", Cause::WordCount),
+    ("1 mark as m n", Cause::WordCount),
+    ("1 mvfs 0 x", Cause::WordCount),
+    ("1 mvfs 0 0 0 0", Cause::WordCount),
+    ("1 lamina 0 0 0 7", Cause::WordCount),
+    ("1 prism 0", Cause::WordCount),
+    ("1 prism 0 as m", Cause::WordCount),
+    ("x1 goto", Cause::UnknownCommand),
+    ("lock x", Cause::BadNumber),
+    ("lock -1", Cause::BadNumber),
+    ("unlock 4294967296", Cause::BadNumber),
+    ("1x mark", Cause::BadNumber),
+    ("4294967296 goto M", Cause::BadNumber),
+    ("1 mvfs 9223372036854775808 0 0", Cause::BadNumber),
+    ("1 mvfs 0 0 -9223372036854775809", Cause::BadNumber),
+    ("1 mvfs 0 - 0", Cause::BadNumber),
+    ("1 mvfs 0 +1 0", Cause::BadNumber),
+    ("1 goto 4294967296", Cause::BadNumber),
+    ("1 goto 5x as M", Cause::BadNumber),
+    ("1 turn 6x w 1", Cause::BadNumber),
+    ("1 lamina 0 0 x", Cause::BadNumber),
+    ("1 turn 65 w 1x", Cause::BadName),
+    ("1 goto -5", Cause::BadName),
+    ("1 goto m.", Cause::BadName),
+    ("1 set 65 colour_2345678901 1", Cause::BadName),
+    ("1 mark as 7", Cause::BadName),
+    ("1 mark as a2345678901234567", Cause::BadName),
+];
+
+// More lines of that place.
+const NAMES: [(&str, Cause); 12] = [
+    ("1 goto m.1.2", Cause::BadName),
+    ("1 goto .1", Cause::BadName),
+    ("1 goto m.x", Cause::BadName),
+    ("1 goto m.4294967296", Cause::BadName),
+    ("1 goto M.1", Cause::BadName),
+    ("1 set 65 2nd 1", Cause::BadName),
+    ("1 set 65 _x 1x", Cause::BadName),
+    ("1 set 65 k 1x", Cause::BadNumber),
+    ("1 drop 65 K as M", Cause::BadName),
+    ("1 mark\u{7f}", Cause::BadByte),
+    ("1 teleport \u{e9}", Cause::BadByte),
+    ("1 mark\r ", Cause::BadByte),
+];
+
+/// The first bad line, and its cause.
+fn bad_line(alloc: Global, bytes: &[u8]) -> Option<(u32, Cause)> {
     match read_script(alloc, bytes) {
-        Err(ScriptNo::Bad { line, .. }) => Some(line),
+        Err(ScriptNo::Bad { line, cause }) => Some((line, cause)),
         _ => None,
     }
 }
 
 #[test]
-fn each_error_has_its_message(rt: HostRuntime) -> Result<(), Fail> {
+fn the_first_bad_line_is_told_with_its_first_cause(rt: HostRuntime) -> Result<(), Fail> {
     let alloc = rt.alloc();
-    let cause = Cause::NotBuilt;
-    for (no, message) in [
-        (ScriptNo::Bad { line: 3, cause }, "line 3: NotBuilt"),
-        (ScriptNo::NoMemory, "no memory"),
-    ] {
-        assert_eq!(rt; format!(in alloc; "{no}")?.as_str(), message);
+    for (text, line, cause) in OUTSIDE {
+        let told = bad_line(alloc, text.as_bytes());
+        assert_eq!(rt; told, Some((line, cause)), "{text}");
+    }
+    for (line, cause) in LINES.iter().chain(NAMES.iter()) {
+        let text = format!(in alloc; "session 1 1\nthread\nlock 1\n{line}")?;
+        let told = bad_line(alloc, text.as_bytes());
+        assert_eq!(rt; told, Some((4, *cause)), "{line}");
+        let worse = format!(in alloc; "{text}\nend 1\nx\n")?;
+        if !line.is_empty() {
+            let told = bad_line(alloc, worse.as_bytes());
+            assert_eq!(rt; told, Some((4, *cause)), "{line}");
+        }
     }
     Ok(())
 }
+
+/// A text, and so many copies of another behind it.
+fn repeated(alloc: Global, text: &str, piece: &str, count: u32) -> Result<Vec<u8>, AllocError> {
+    let mut bytes = Vec::from_slice(alloc, text.as_bytes())?;
+    for _ in 0..count {
+        bytes.extend_from_slice(piece.as_bytes())?;
+    }
+    Ok(bytes)
+}
+
+#[test]
+fn the_most_lines_bytes_and_threads_are_in(rt: HostRuntime) -> Result<(), Fail> {
+    let alloc = rt.alloc();
+    let script = "session 1 1\nthread\nend\n";
+    let full = repeated(alloc, script, "\n", 65_533)?;
+    assert_eq!(rt; bad_line(alloc, full.as_slice()), None);
+    let full = repeated(alloc, script, "#\n", 65_534)?;
+    assert_eq!(rt;
+        bad_line(alloc, full.as_slice()),
+        Some((65_537, Cause::TooManyLines))
+    );
+    let long = repeated(alloc, "session 1 1", " ", 16_373)?;
+    assert_eq!(rt;
+        bad_line(alloc, long.as_slice()),
+        Some((2, Cause::NoThread))
+    );
+    let long = repeated(alloc, "session 1 1", " ", 16_374)?;
+    assert_eq!(rt;
+        bad_line(alloc, long.as_slice()),
+        Some((1, Cause::LongLine))
+    );
+    let long = repeated(alloc, "#", "\u{7f}", 16_384)?;
+    assert_eq!(rt;
+        bad_line(alloc, long.as_slice()),
+        Some((1, Cause::LongLine))
+    );
+    let many = repeated(alloc, "session 1 1\n", "thread\nend\n", 16)?;
+    assert_eq!(rt; bad_line(alloc, many.as_slice()), None);
+    let many = repeated(alloc, "session 1 1\n", "thread\nend\n", 17)?;
+    assert_eq!(rt;
+        bad_line(alloc, many.as_slice()),
+        Some((34, Cause::TooManyThreads))
+    );
+    Ok(())
+}
+
+#[test]
+fn each_error_has_its_message(rt: HostRuntime) -> Result<(), Fail> {
+    let alloc = rt.alloc();
+    for (cause, name) in [
+        (Cause::TooManyLines, "TooManyLines"),
+        (Cause::LongLine, "LongLine"),
+        (Cause::BadByte, "BadByte"),
+        (Cause::NoSession, "NoSession"),
+        (Cause::NoThread, "NoThread"),
+        (Cause::TooManyThreads, "TooManyThreads"),
+        (Cause::Unended, "Unended"),
+        (Cause::UnknownCommand, "UnknownCommand"),
+        (Cause::WordCount, "WordCount"),
+        (Cause::BadNumber, "BadNumber"),
+        (Cause::BadName, "BadName"),
+        (Cause::BadSession, "BadSession"),
+        (Cause::NotBuilt, "NotBuilt"),
+    ] {
+        let no = ScriptNo::Bad { line: 3, cause };
+        let message = format!(in alloc; "line 3: {name}")?;
+        assert_eq!(rt; format!(in alloc; "{no}")?.as_str(), message.as_str());
+    }
+    let no = ScriptNo::NoMemory;
+    assert_eq!(rt; format!(in alloc; "{no}")?.as_str(), "no memory");
+    Ok(())
+}
+
+// Blanks, comments, line ends, names and leading zeros as people write them.
+const FREE: &str =
+    "# two parts\r\n\r\n session\t2  007 \r\nschedule 2 1 16\r\n\tthread\r\n  # one\n\
+    lock 02\n \t\n2 mef 065 m as n\n2 goto m_2.3\nunlock 2\nend\r\nthread\nend\r";
+
+// Names, padded.
+const M: Name = Name(*b"m\0\0\0\0\0\0\0\0\0\0\0\0\0\0\0");
+
+const M_2: Name = Name(*b"m_2\0\0\0\0\0\0\0\0\0\0\0\0\0");
+
+const AS: Name = Name(*b"as\0\0\0\0\0\0\0\0\0\0\0\0\0\0");
+
+const LONGEST: Name = Name(*b"a23456789012345_");
 
 fn operands(line: &ScriptLine) -> &[Operand] {
     match &line.order {
@@ -40,29 +231,60 @@ fn operands(line: &ScriptLine) -> &[Operand] {
     }
 }
 
-#[test]
-fn reads_each_line(rt: HostRuntime) -> Result<(), Fail> {
-    let alloc = rt.alloc();
-    let bytes = script(
-        alloc,
-        "1 mvfs 0 0 0\n1 kfmrh 67 75\n1 set 65 k 70\n1 goto 70\nend\n",
-    )?;
-    let script = read_script(alloc, bytes.as_slice())?;
-    assert_eq!(rt; (script.n, script.last), (1, 1));
-    assert_eq!(rt; script.schedule.as_slice().len(), 0);
-    assert_eq!(rt; script.threads.as_slice().len(), 1);
-    let lines = script.threads.as_slice()[0].as_slice();
-    assert_eq!(rt; lines.len(), 6);
-    for (i, line) in lines.iter().enumerate() {
-        assert_eq!(rt; u64::from(line.number), i as u64 + 3);
+/// The lines of a thread.
+fn lines_of(script: &Script, thread: usize) -> &[ScriptLine] {
+    match script.threads.as_slice().get(thread) {
+        Some(lines) => lines.as_slice(),
+        None => &[],
     }
-    assert!(rt; matches!(&lines[0].order, Order::Lock(1)));
-    assert_eq!(rt; operands(&lines[1]).len(), 0);
-    let both = [Operand::Digits(Tag(67)), Operand::Digits(Tag(75))];
-    assert_eq!(rt; operands(&lines[2]), both.as_slice());
-    assert_eq!(rt; operands(&lines[3]), [Operand::Digits(Tag(65))].as_slice());
-    assert_eq!(rt; operands(&lines[4]), [Operand::Digits(Tag(70))].as_slice());
-    assert!(rt; matches!(&lines[5].order, Order::End));
+}
+
+#[test]
+fn blanks_comments_and_line_ends_are_free(rt: HostRuntime) -> Result<(), Fail> {
+    let alloc = rt.alloc();
+    let script = read_script(alloc, FREE.as_bytes())?;
+    assert_eq!(rt; (script.n, script.last), (2, 7));
+    assert_eq!(rt; script.schedule.as_slice(), [2, 1, 16].as_slice());
+    assert_eq!(rt; script.threads.as_slice().len(), 2);
+    let lines = lines_of(&script, 0);
+    assert_eq!(rt; lines.len(), 5);
+    for (line, number) in lines.iter().zip([7, 9, 10, 11, 12].iter()) {
+        assert_eq!(rt; line.number, *number);
+    }
+    assert!(rt; matches!(&lines[0].order, Order::Lock(2)));
+    let both = [Operand::Digits(Tag(65)), Operand::Named { name: M, at: 0 }];
+    assert_eq!(rt; operands(&lines[1]), both.as_slice());
+    let one = [Operand::Named { name: M_2, at: 3 }];
+    assert_eq!(rt; operands(&lines[2]), one.as_slice());
+    assert!(rt; matches!(&lines[3].order, Order::Unlock(2)));
+    assert!(rt; matches!(&lines[4].order, Order::End));
+    let lines = lines_of(&script, 1);
+    assert_eq!(rt; lines.len(), 1);
+    assert_eq!(rt; lines[0].number, 14);
+    Ok(())
+}
+
+/// The name that the act of a line is bound to.
+fn bound(line: &ScriptLine) -> Option<Name> {
+    match &line.order {
+        Order::On { bind, .. } => *bind,
+        Order::Lock(_) | Order::Unlock(_) | Order::End => None,
+    }
+}
+
+#[test]
+fn an_answer_is_bound_to_the_name_behind_as(rt: HostRuntime) -> Result<(), Fail> {
+    let alloc = rt.alloc();
+    let text =
+        "session 1 1\nthread\n1 mark as a23456789012345_\n1 drop 65 as\n1 goto as as as\nend";
+    let script = read_script(alloc, text.as_bytes())?;
+    let lines = lines_of(&script, 0);
+    assert_eq!(rt; lines.len(), 4);
+    assert_eq!(rt; bound(&lines[0]), Some(LONGEST));
+    assert_eq!(rt; bound(&lines[1]), None);
+    assert_eq!(rt; bound(&lines[2]), Some(AS));
+    let one = [Operand::Named { name: AS, at: 0 }];
+    assert_eq!(rt; operands(&lines[2]), one.as_slice());
     Ok(())
 }
 
@@ -113,28 +335,39 @@ const NUMBERS: [(&str, &str); 3] = [
     ("goto 4294967295", "goto 4294967295"),
 ];
 
-/// The report whose one journal has the act of a line alone.
-fn reprinted(alloc: Global, line: &str) -> Result<Option<Text>, NoMemory> {
-    let Some(act) = act_of_line(alloc, line.as_bytes())? else {
-        return Ok(None);
+/// The act of line 3 of a script.
+fn act_of(script: &Script) -> Option<&Act> {
+    match &lines_of(script, 0).first()?.order {
+        Order::On { act, .. } => Some(act),
+        Order::Lock(_) | Order::Unlock(_) | Order::End => None,
+    }
+}
+
+/// The report whose one journal has the act alone.
+fn report_of(alloc: Global, act: &Act) -> Result<Report, NoMemory> {
+    let did = Entry::Did {
+        thread: 1,
+        act: act.copy(alloc)?,
     };
-    let did = Entry::Did { thread: 1, act };
-    let report = Report {
+    Ok(Report {
         n: 1,
         last: 1,
         threads: Items::of(Vec::new(alloc)),
         journals: Items::of(vec![in alloc; EntryList::of(vec![in alloc; did]?)]?),
-    };
-    Ok(Some(report_text(alloc, &report)?))
+    })
 }
 
 /// Whether the command is read, and printed as wanted.
-fn is_printed_as(alloc: Global, command: &str, wanted: &str) -> Result<bool, NoMemory> {
-    let line = format!(in alloc; "1 {command}")?;
+fn is_printed_as(alloc: Global, command: &str, wanted: &str) -> Result<bool, ScriptNo> {
+    let script = format!(in alloc; "session 1 1\nthread\n1 {command}\nend\n")?;
     let wanted = format!(in alloc; "report 1 1\npartition 1\ndid 1 {wanted}\nend\n")?;
-    match reprinted(alloc, &line)? {
+    let script = read_script(alloc, script.as_bytes())?;
+    match act_of(&script) {
         None => Ok(false),
-        Some(text) => Ok(text.as_slice() == wanted.as_bytes()),
+        Some(act) => {
+            let text = report_text(alloc, &report_of(alloc, act)?)?;
+            Ok(text.as_slice() == wanted.as_bytes())
+        }
     }
 }
 
@@ -146,89 +379,6 @@ fn commands_are_read_and_printed_back(rt: HostRuntime) -> Result<(), Fail> {
     }
     for (command, wanted) in NUMBERS {
         assert!(rt; is_printed_as(alloc, command, wanted)?, "{command}");
-    }
-    Ok(())
-}
-
-// Lines that are no act on partition 1.
-const NO_ACTS: [&str; 26] = [
-    "",
-    "1",
-    "1 ",
-    "mark",
-    "2 mark",
-    "01 mark",
-    " 1 mark",
-    "1 mark ",
-    "1 Mark",
-    "1 teleport 65",
-    "1 mvfs 0 0",
-    "1 mvfs 0 0 0 0",
-    "1 mef 65",
-    "1 bodies 65",
-    "1 set 65 abcdefghijklmnopq 1",
-    "1 set 65 2nd 1",
-    "1 set 65 _x 1",
-    "1 set 65 Colour 1",
-    "1 set 65 colour",
-    "1 turn 65 w 1",
-    "1 turn 65 xy 1",
-    "1 lamina 0 0 0 7 -1 3",
-    "1 prism 0",
-    "1 ask 4294967296",
-    "1 lamina 9223372036854775808 0 0",
-    "1 turn 65 x -9223372036854775809",
-];
-
-#[test]
-fn other_lines_are_no_acts(rt: HostRuntime) -> Result<(), Fail> {
-    let alloc = rt.alloc();
-    for line in NO_ACTS {
-        assert!(rt; act_of_line(alloc, line.as_bytes())?.is_none(), "{line}");
-    }
-    Ok(())
-}
-
-#[test]
-fn refuses_the_first_lines(rt: HostRuntime) -> Result<(), Fail> {
-    let alloc = rt.alloc();
-    for (text, line) in [
-        ("", 1),
-        ("session 1 1", 1),
-        ("session 1 2\nthread\nlock 1\nend\n", 1),
-        ("session 1 1\n", 2),
-        ("session 1 1\nthread\nlock 2\nend\n", 3),
-        ("session 1 1\nthread\nlock 1\n", 4),
-    ] {
-        assert_eq!(rt; bad_line(alloc, text.as_bytes()), Some(line), "{text}");
-    }
-    Ok(())
-}
-
-#[test]
-fn refuses_the_first_bad_line(rt: HostRuntime) -> Result<(), Fail> {
-    let alloc = rt.alloc();
-    for (lines, line) in [
-        ("1 mark\nend", 5),
-        ("1 mark\nend\n1 mark\n", 6),
-        ("1 mark\nend\n ", 6),
-        ("1 mvfs 0 0\nend\n", 4),
-        ("1 mark\n1  mark\nend\n", 5),
-        ("1 mark \nend\n", 4),
-        ("2 mark\nend\n", 4),
-        ("1 mvfs 9223372036854775808 0 0\nend\n", 4),
-        ("1 mvfs 0 0 -9223372036854775809\nend\n", 4),
-        ("1 goto 4294967296\nend\n", 4),
-        ("1 goto +5\nend\n", 4),
-        ("1 goto -5\nend\n", 4),
-        ("1 mark\n1 mark\r\nend\n", 5),
-        (
-            "1 mark\n1 mark\n1 mark\n1 mark\n1 mark\n1 mark\n1 mark\n1 mark\n1 mark\n1 mark\n1 mark\n1 mark\n1 mark\nend\n",
-            16,
-        ),
-    ] {
-        let bytes = script(alloc, lines)?;
-        assert_eq!(rt; bad_line(alloc, bytes.as_slice()), Some(line), "{lines}");
     }
     Ok(())
 }

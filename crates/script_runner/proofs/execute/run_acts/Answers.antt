@@ -1,8 +1,8 @@
 use Rattle.std.proofs.Common.{ℕ, [], ◌∷◌, ◌++◌, None, unwrap_or, sym, ap, subst, ◌∙◌}
 use Rattle.pk_base.specs.declared.act.Entry.TheVariants.{Claimed, Released}
 use Rattle.partition.specs.Partition.{Appends, PartitionView}
-use Rattle.script_text.specs.Form.{end_line, lock_line}
 use Rattle.modeller.specs.Euler.{euler}
+use Rattle.script_runner.specs.Built.{end_line, lock_line}
 use Rattle.script_runner.specs.OneThread.{IsRunOf}
 use Rattle.script_text.specs.declared.report.Line.{Line}
 use Rattle.script_text.specs.declared.report.LineSaid.TheVariants.{Ended}

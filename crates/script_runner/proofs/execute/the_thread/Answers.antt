@@ -1,6 +1,5 @@
 use Rattle.std.proofs.Common.{◌≡◌, List, get_or, sym, ap, subst, ◌∙◌}
-use Rattle.script_text.specs.Form.{script_of_thread}
-use Rattle.script_runner.specs.Built.{IsOneThread}
+use Rattle.script_runner.specs.Built.{IsOneThread, script_of_thread}
 use Rattle.script_text.specs.declared.script.Script.{Script}
 use Rattle.script_text.specs.declared.script.ScriptLine.{ScriptLine}
 use Rattle.script_runner.proofs.execute.the_thread.Goals as goal

@@ -2,13 +2,14 @@
 use crate::Status;
 
 /// A script, its report, and how its run ends.
-pub const EXAMPLES: [(&str, &str, Status); 6] = [
+pub const EXAMPLES: [(&str, &str, Status); 7] = [
     (BRANCHES_SCRIPT, BRANCHES_REPORT, Status::Done),
     (UNDO_SCRIPT, UNDO_REPORT, Status::Done),
     (REFUSALS_SCRIPT, REFUSALS_REPORT, Status::SomeRefused),
     (NOTHING_SCRIPT, NOTHING_REPORT, Status::Done),
     (TWELVE_SCRIPT, TWELVE_REPORT, Status::Done),
     (KILLED_SCRIPT, KILLED_REPORT, Status::SomeRefused),
+    (LAYOUT_SCRIPT, LAYOUT_REPORT, Status::Done),
 ];
 
 const BRANCHES_SCRIPT: &str =
@@ -45,3 +46,9 @@ const KILLED_SCRIPT: &str =
 
 const KILLED_REPORT: &str =
     "report 1 1\nthread 1\n3 locked\n4 made 65-69\n5 made 70\n6 done\n7 refused 1 NoSuchTag 65\n8 went fresh 65-69 gone - changed -\n9 refused 2 WrongClass 69 vertex\n10 ended 1\npartition 1\nclaimed 1\ndid 1 mvfs 0 0 0\ndid 1 mark\ndid 1 kvfs 65\ndid 1 kvfs 65\ndid 1 goto 70\ndid 1 kvfs 69\nreleased 1\nend\n";
+
+const LAYOUT_SCRIPT: &str =
+    "# two bodies → one → none\r\n\r\n  session\t1 1\r\n# the one thread\nthread\r\n\tlock 1\r\n\n\t1  mvfs 0\t0 0\r\n\t1 mark \t\r\n\t# another one\r\n\t01 mvfs 001 -0 0\r\n\t1 goto 070\r\n   \t\n\t1 goto 64\r\nend";
+
+const LAYOUT_REPORT: &str =
+    "report 1 1\nthread 1\n6 locked\n8 made 65-69\n9 made 70\n11 made 71-75\n12 went fresh - gone 71-75 changed -\n14 went fresh - gone 65-69 changed -\n15 ended 1\npartition 1\nclaimed 1\ndid 1 mvfs 0 0 0\ndid 1 mark\ndid 1 mvfs 1 0 0\ndid 1 goto 70\ndid 1 goto 64\nreleased 1\nend\n";
