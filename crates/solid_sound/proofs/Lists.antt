@@ -1,6 +1,6 @@
 -- Cyclic lists of tags: their parts, their neighbours, and how often a tag stands in them.
 use Rattle.std.proofs.Common.{◌≡◌, ◌≢◌, ℕ, zero, suc, ◌+◌, ◌≤◌, ◌⊎◌, inl, inr, ⊎_elim, Bool, true, false, cond, List, [], ◌∷◌, ◌++◌, refl, sym, ap, subst, ◌∙◌, append-nil, arith}
-use Rattle.std.specs.Prelude.{unwrap_or, Contains}
+use Rattle.std.specs.Prelude.{T, ◌&&◌, unwrap_or, map, Contains}
 use Rattle.std.specs.List.{count_by}
 use Rattle.std.proofs.lemmas.Bool.{true≢false, cases_Bool, or_left, or_right, or_cases}
 use Rattle.std.proofs.lemmas.List.Sums.{sum_by-cons, sum_by-append}
@@ -11,6 +11,16 @@ use Rattle.pk_base.specs.declared.tag.Tag.{Tag}
 use Rattle.pk_model.specs.Apart.{NoRepeats}
 use Rattle.pk_model.proofs.TagLists.{ByRecursion-at, ByRecursion-contains}
 use Rattle.solid_model.specs.Rings.{is_among, before, from, first_tag, neighbours, neighbours_from}
+
+-- ---- tests
+
+pub both_parts : (a b : Bool) → T (a && b) → T a × T b
+both_parts true b h = (tt, h)
+both_parts false b h = absurd h
+
+pub both_from : (a b : Bool) → T a → T b → T (a && b)
+both_from true b h k = k
+both_from false b h k = h
 
 -- ---- elements
 
@@ -204,3 +214,48 @@ alone_in_ring f ring once k own =
         apart : (f g : Tag) (pre post : List Tag) → NoRepeats (pre ++ f ∷ g ∷ post) → g ≢ f
         apart f g [] post once e = once.0.0 (sym e)
         apart f g (q ∷ pre) post once e = apart f g pre post once.1 e
+
+neighbours_from-in : {A : Type 0} (first x : A) (ys : List A) (n : A × A) → Contains (neighbours_from first x ys) n → Contains (x ∷ ys) n.0 × ((n.1 ≡ first) ⊎ Contains ys n.1)
+neighbours_from-in {A = A} first x [] n k =
+    ⊎_elim {C = Contains (x ∷ []) n.0 × ((n.1 ≡ first) ⊎ Contains [] n.1)}
+    (λ (e : (x, first) ≡ n). (subst (Contains (x ∷ [])) (ap (λ (m : A × A). m.0) e) (contains_first x []), inl (sym (ap (λ (m : A × A). m.1) e))))
+    (λ (r : Contains [] n). absurd (not_in_nil n r))
+    (contains_cases (x, first) [] n k)
+neighbours_from-in {A = A} first x (y ∷ ys) n k =
+    ⊎_elim {C = Contains (x ∷ y ∷ ys) n.0 × ((n.1 ≡ first) ⊎ Contains (y ∷ ys) n.1)}
+    (λ (e : (x, y) ≡ n). (
+      subst (Contains (x ∷ y ∷ ys)) (ap (λ (m : A × A). m.0) e) (contains_first x (y ∷ ys)),
+      inr (subst (Contains (y ∷ ys)) (ap (λ (m : A × A). m.1) e) (contains_first y ys)),
+    ))
+    (λ (r : Contains (neighbours_from first y ys) n).
+    let rest = neighbours_from-in first y ys n r in (
+      contains_later x (y ∷ ys) n.0 rest.0,
+      ⊎_elim {C = (n.1 ≡ first) ⊎ Contains (y ∷ ys) n.1} (λ e. inl e) (λ c. inr (contains_later y ys n.1 c)) rest.1,
+    ))
+    (contains_cases (x, y) (neighbours_from first y ys) n k)
+
+-- both neighbours stand in the list
+pub neighbours-in : {A : Type 0} (xs : List A) (n : A × A) → Contains (neighbours xs) n → Contains xs n.0 × Contains xs n.1
+neighbours-in [] n k = absurd (not_in_nil n k)
+neighbours-in (x ∷ xs) n k =
+    let both = neighbours_from-in x x xs n k in (
+      both.0,
+      ⊎_elim (λ e. subst (Contains (x ∷ xs)) (sym e) (contains_first x xs)) (λ c. contains_later x xs n.1 c) both.1,
+    )
+
+pub times-none : (f : Tag) (ts : List Tag) → ¬ (Contains ts f) → times f ts ≡ 0
+times-none f ts h = ⊎_elim (λ (z : times f ts ≡ 0). z) (λ (p : 1 ≤ times f ts). absurd (h (in-times f ts p))) (zero_or_more (times f ts))
+
+pub among-map : {A B : Type 0} (g : A → B) (xs : List A) (x : A) → Contains xs x → Contains (map g xs) (g x)
+among-map g [] x k = absurd (not_in_nil x k)
+among-map g (y ∷ ys) x k =
+    ⊎_elim (λ (e : y ≡ x). subst (λ z. Contains (map g (y ∷ ys)) (g z)) e (contains_first (g y) (map g ys)))
+    (λ (r : Contains ys x). contains_later (g y) (map g ys) (g x) (among-map g ys x r))
+    (contains_cases y ys x k)
+
+pub map-among : {A B : Type 0} (g : A → B) (xs : List A) (y : B) → Contains (map g xs) y → (x : A) × Contains xs x × (g x ≡ y)
+map-among {A = A} g [] y k = absurd (not_in_nil y k)
+map-among {A = A} g (x ∷ xs) y k =
+    ⊎_elim {C = (z : A) × Contains (x ∷ xs) z × (g z ≡ y)} (λ (e : g x ≡ y). (x, contains_first x xs, e))
+    (λ (r : Contains (map g xs) y). let rest = map-among g xs y r in (rest.0, contains_later x xs rest.0 rest.1, rest.2))
+    (contains_cases (g x) (map g xs) y k)

@@ -1,5 +1,5 @@
 -- A loop's list is read again from its entities.
-use Rattle.std.proofs.Common.{◌≡◌, ◌≢◌, ℕ, zero, suc, ◌+◌, ◌<◌, ◌≤◌, ⊎_elim, Bool, true, false, not, ◌&&◌, cond, List, [], ◌∷◌, ◌++◌, length, drop, Option, Some, None, refl, sym, ap, subst, ◌∙◌, append_assoc, arith}
+use Rattle.std.proofs.Common.{◌≡◌, ◌≢◌, ℕ, zero, suc, ◌+◌, ◌<◌, ◌≤◌, ⊎_elim, true, false, not, cond, List, [], ◌∷◌, ◌++◌, length, drop, Option, Some, None, refl, sym, ap, subst, ◌∙◌, append_assoc, arith}
 use Rattle.std.specs.Prelude.{T, map, find, is_some, IsSome, unwrap_or, option_map, Contains}
 use Rattle.std.specs.Option.{option_and_then, option_map_or}
 use Rattle.std.specs.List.{AllByRecursion, sum_by}
@@ -31,11 +31,7 @@ use Rattle.solid_model.specs.Links.{entities_of, entity_of, links}
 use Rattle.solid_model.specs.Shapes.{next_of, next_among, fins_until, fins_read, item_of, shape_of}
 use Rattle.solid_model.specs.Sound.{IsWritten, IsSoundShape, times_in_loops, class_at}
 use Rattle.solid_model.proofs.Written.{shape_of-links}
-use Rattle.solid_sound.proofs.Lists.{head_or, is_among-in, not_among, times, times-in, contains_first, contains_later, contains_cases, same_itself, not_same, parts_at, once-times, not_in_nil}
-
-both_parts : (a b : Bool) → T (a && b) → T a × T b
-both_parts true b h = (tt, h)
-both_parts false b h = absurd h
+use Rattle.solid_sound.proofs.Lists.{head_or, both_parts, is_among-in, not_among, times, times-in, contains_first, contains_later, contains_cases, same_itself, not_same, parts_at, once-times, not_in_nil}
 
 -- ---- the neighbour in a list
 
@@ -104,7 +100,7 @@ list-read n es (f ∷ fins) e once fits next = read_on (length es) es f f (f ∷
 
 -- ---- what is found
 
-find-map : {A B : Type 0} (g : Tag → A → B) (t : Tag) (xs : List (Tag × A)) → entries.find tag_cmp t (map (λ x. (x.0, g x.0 x.1)) xs) ≡ option_map (g t) (entries.find tag_cmp t xs)
+pub find-map : {A B : Type 0} (g : Tag → A → B) (t : Tag) (xs : List (Tag × A)) → entries.find tag_cmp t (map (λ x. (x.0, g x.0 x.1)) xs) ≡ option_map (g t) (entries.find tag_cmp t xs)
 find-map g t [] = refl
 find-map g t (x ∷ xs) = elim (eq_by_cmp tag_cmp t x.0) as (λ b. eq_by_cmp tag_cmp t x.0 ≡ b → cond b (Some (g x.0 x.1)) (entries.find tag_cmp t (map (λ y. (y.0, g y.0 y.1)) xs)) ≡ option_map (g t) (cond b (Some x.1) (entries.find tag_cmp t xs))) [
   | true ↦ λ h. ap (λ u. Some (g u x.1)) (sym (same_from_tie t x.0 h))
@@ -165,7 +161,7 @@ no_more_than_items (t ∷ ts) S sorted once live =
 
 -- ---- each item is found under its tag
 
-below_all-differs : (t : Tag) (S : Shape) → T (below_all tag_cmp t S) → AllByRecursion (λ (x : Tag × Item). t ≢ x.0) S
+pub below_all-differs : (t : Tag) (S : Shape) → T (below_all tag_cmp t S) → AllByRecursion (λ (x : Tag × Item). t ≢ x.0) S
 below_all-differs t [] h = tt
 below_all-differs t (x ∷ S) h =
     let both = both_parts (is_lt (tag_cmp t x.0)) (below_all tag_cmp t S) h in
@@ -200,7 +196,7 @@ fin_of_class (Some (Attr owner name value)) h = absurd (cc)
 module _ (S : Shape) (written : IsWritten S) (sound : IsSoundShape S) where
   module _ (l face : Tag) (fins : List Tag) (vertex : Option Tag) (is : item_at S l ≡ Some (Loop face fins vertex)) where
     -- each fin of a loop is a fin
-    fin_in : (f : Tag) → Contains fins f → (mate : Tag) × (edge : Tag) × (start : Tag) × (item_at S f ≡ Some (Fin mate edge start))
+    pub fin_in : (f : Tag) → Contains fins f → (mate : Tag) × (edge : Tag) × (start : Tag) × (item_at S f ≡ Some (Fin mate edge start))
     fin_in f k = fin_of_class (item_at S f) (ByRecursion-at (λ t. class_at S t ≡ Some class.Fin) fins f (sound.names.kinds l (Loop face fins vertex) is).1 k)
 
     fin_once : (f : Tag) → Contains fins f → times_in_loops S f ≡ 1
