@@ -1,0 +1,5 @@
+pub mod Places
+pub mod Sessions
+pub mod Stepping
+pub mod Beginnings
+pub mod Running
