@@ -23,13 +23,21 @@ digits_of (d ∷ ds) = if list_all is_digit (d ∷ ds) then Some (digits_value 0
 abbrev pub below : ℕ → Option ℕ → Option ℕ
 below limit o = option_and_then (λ n. if nat_lt n limit then Some n else None) o
 
+-- numbers of 32 bits are below this
+abbrev pub small_limit : ℕ
+small_limit = 2 ^ 32
+
+-- signed numbers of 64 bits are below this, and no less than its negative
+abbrev pub number_limit : ℕ
+number_limit = 2 ^ 63
+
 -- one or more digits, which fit 32 bits
 abbrev pub small_number_of : List ℕ → Option ℕ
-small_number_of word = below (2 ^ 32) (digits_of word)
+small_number_of word = below small_limit (digits_of word)
 
 -- an optional `-` and one or more digits, which fit a signed number of 64 bits
 abbrev pub number_of : List ℕ → Option ℤ
 number_of [] = None
 number_of (b ∷ bs) =
-    if b == 45 then option_map (λ n. neg_ℤ (pos n)) (below (2 ^ 63 + 1) (digits_of bs))
-    else option_map pos (below (2 ^ 63) (digits_of (b ∷ bs)))
+    if b == 45 then option_map (λ n. neg_ℤ (pos n)) (below (number_limit + 1) (digits_of bs))
+    else option_map pos (below number_limit (digits_of (b ∷ bs)))

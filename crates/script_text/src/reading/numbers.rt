@@ -1,6 +1,6 @@
 //! Numbers, by their digits.
 ghost use Rattle.std.specs.Prelude.{◌≡◌, ◌+◌, ◌-◌, ◌*◌, ◌^◌, if◌then◌else◌, option_map, pos, neg_ℤ};
-ghost use Rattle.script_text.specs.Numbers.{is_digit, digits_of, below, number_of, small_number_of};
+ghost use Rattle.script_text.specs.Numbers.{is_digit, digits_of, below, number_limit, number_of, small_number_of};
 
 /// The number that some digits and one more spell, where it is below 2^64.
 fn with_digit(front: u64, digit: u8) -> Option<u64>
@@ -29,7 +29,7 @@ fn digits(word: &[u8]) -> Option<u64>
 
 /// The negative of a size, where that fits.
 fn negated(size: u64) -> Option<i64>
-    ensures { result ≡ option_map (λ n. neg_ℤ (pos n)) (below (2 ^ 63 + 1) (Some size)) }
+    ensures { result ≡ option_map (λ n. neg_ℤ (pos n)) (below (number_limit + 1) (Some size)) }
 {
     if size == 1 << 63 {
         return Some(i64::MIN);

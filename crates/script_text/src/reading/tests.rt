@@ -8,7 +8,7 @@ use std::test::Fail;
 type BadText = (&'static str, u32, Cause);
 
 // What may stand outside the scripts of threads, and what may not.
-const OUTSIDE: [BadText; 33] = [
+const OUTSIDE: [BadText; 36] = [
     ("", 1, Cause::NoSession),
     ("\n", 2, Cause::NoSession),
     ("# a comment\n\n \t\n", 4, Cause::NoSession),
@@ -18,6 +18,13 @@ const OUTSIDE: [BadText; 33] = [
     ("x 1\nsession 0 1\n", 1, Cause::NoSession),
     ("session 1 10", 2, Cause::NoThread),
     ("session 1 10\n# a comment\n", 3, Cause::NoThread),
+    (
+        "session 1 10\nthread\nlock 1\n1 blo",
+        4,
+        Cause::UnknownCommand,
+    ),
+    ("session 1 10\nthread\nlock 1\n", 4, Cause::Unended),
+    ("session 1 10\nthread\nlock x\n", 3, Cause::BadNumber),
     ("session\n", 1, Cause::WordCount),
     ("session 1\n", 1, Cause::WordCount),
     ("session 0 x 1\n", 1, Cause::WordCount),
@@ -118,6 +125,39 @@ fn bad_line(alloc: Global, bytes: &[u8]) -> Option<(u32, Cause)> {
     }
 }
 
+// A text with so many copies of another behind it, and what is told.
+type Repeated = (&'static str, &'static str, u32, Option<(u32, Cause)>);
+
+// The limits on lines, their bytes and threads: the most, and one more.
+const LIMITS: [Repeated; 7] = [
+    ("session 1 1\nthread\nend\n", "\n", 65_533, None),
+    (
+        "session 1 1\nthread\nend\n",
+        "#\n",
+        65_534,
+        Some((65_537, Cause::TooManyLines)),
+    ),
+    ("session 1 1", " ", 16_373, Some((2, Cause::NoThread))),
+    ("session 1 1", " ", 16_374, Some((1, Cause::LongLine))),
+    ("#", "\u{7f}", 16_384, Some((1, Cause::LongLine))),
+    ("session 1 1\n", "thread\nend\n", 16, None),
+    (
+        "session 1 1\n",
+        "thread\nend\n",
+        17,
+        Some((34, Cause::TooManyThreads)),
+    ),
+];
+
+/// A text, and so many copies of another behind it.
+fn repeated(alloc: Global, text: &str, piece: &str, count: u32) -> Result<Vec<u8>, AllocError> {
+    let mut bytes = Vec::from_slice(alloc, text.as_bytes())?;
+    for _ in 0..count {
+        bytes.extend_from_slice(piece.as_bytes())?;
+    }
+    Ok(bytes)
+}
+
 #[test]
 fn the_first_bad_line_is_told_with_its_first_cause(rt: HostRuntime) -> Result<(), Fail> {
     let alloc = rt.alloc();
@@ -135,51 +175,10 @@ fn the_first_bad_line_is_told_with_its_first_cause(rt: HostRuntime) -> Result<()
             assert_eq!(rt; told, Some((4, *cause)), "{line}");
         }
     }
-    Ok(())
-}
-
-/// A text, and so many copies of another behind it.
-fn repeated(alloc: Global, text: &str, piece: &str, count: u32) -> Result<Vec<u8>, AllocError> {
-    let mut bytes = Vec::from_slice(alloc, text.as_bytes())?;
-    for _ in 0..count {
-        bytes.extend_from_slice(piece.as_bytes())?;
+    for (text, piece, count, told) in LIMITS {
+        let bytes = repeated(alloc, text, piece, count)?;
+        assert_eq!(rt; bad_line(alloc, bytes.as_slice()), told, "{piece}");
     }
-    Ok(bytes)
-}
-
-#[test]
-fn the_most_lines_bytes_and_threads_are_in(rt: HostRuntime) -> Result<(), Fail> {
-    let alloc = rt.alloc();
-    let script = "session 1 1\nthread\nend\n";
-    let full = repeated(alloc, script, "\n", 65_533)?;
-    assert_eq!(rt; bad_line(alloc, full.as_slice()), None);
-    let full = repeated(alloc, script, "#\n", 65_534)?;
-    assert_eq!(rt;
-        bad_line(alloc, full.as_slice()),
-        Some((65_537, Cause::TooManyLines))
-    );
-    let long = repeated(alloc, "session 1 1", " ", 16_373)?;
-    assert_eq!(rt;
-        bad_line(alloc, long.as_slice()),
-        Some((2, Cause::NoThread))
-    );
-    let long = repeated(alloc, "session 1 1", " ", 16_374)?;
-    assert_eq!(rt;
-        bad_line(alloc, long.as_slice()),
-        Some((1, Cause::LongLine))
-    );
-    let long = repeated(alloc, "#", "\u{7f}", 16_384)?;
-    assert_eq!(rt;
-        bad_line(alloc, long.as_slice()),
-        Some((1, Cause::LongLine))
-    );
-    let many = repeated(alloc, "session 1 1\n", "thread\nend\n", 16)?;
-    assert_eq!(rt; bad_line(alloc, many.as_slice()), None);
-    let many = repeated(alloc, "session 1 1\n", "thread\nend\n", 17)?;
-    assert_eq!(rt;
-        bad_line(alloc, many.as_slice()),
-        Some((34, Cause::TooManyThreads))
-    );
     Ok(())
 }
 
@@ -261,6 +260,30 @@ fn blanks_comments_and_line_ends_are_free(rt: HostRuntime) -> Result<(), Fail> {
     let lines = lines_of(&script, 1);
     assert_eq!(rt; lines.len(), 1);
     assert_eq!(rt; lines[0].number, 14);
+    Ok(())
+}
+
+// A script with line feeds, with carriage returns too, and without its last line end.
+const LAYOUTS: [&str; 3] = [
+    "session 1 10\nthread\nlock 1\n1 block 0 0 0 2 3 4\nunlock 1\nend\n",
+    "session 1 10\r\nthread\r\nlock 1\r\n1 block 0 0 0 2 3 4\r\nunlock 1\r\nend\r\n",
+    "session 1 10\nthread\nlock 1\n1 block 0 0 0 2 3 4\nunlock 1\nend",
+];
+
+#[test]
+fn the_ends_of_lines_make_no_difference(rt: HostRuntime) -> Result<(), Fail> {
+    let alloc = rt.alloc();
+    let script = read_script(alloc, LAYOUTS[0].as_bytes())?;
+    assert_eq!(rt; lines_of(&script, 0).len(), 4);
+    let first = format!(in alloc; "{script:?}")?;
+    for layout in LAYOUTS {
+        let script = read_script(alloc, layout.as_bytes())?;
+        assert_eq!(rt;
+            format!(in alloc; "{script:?}")?.as_str(),
+            first.as_str(),
+            "{layout}"
+        );
+    }
     Ok(())
 }
 
