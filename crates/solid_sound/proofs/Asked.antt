@@ -1,5 +1,5 @@
 -- What holds of a shape and of the tags where a call may be asked.
-use Rattle.std.proofs.Common.{◌≡◌, ℕ, ◌<◌, List, length, Option, Some, None, refl, sym, ap, subst, ◌∙◌}
+use Rattle.std.proofs.Common.{◌≡◌, ◌≢◌, ℕ, zero, suc, ◌<◌, List, [], ◌∷◌, length, Option, Some, None, refl, sym, ap, subst, ◌∙◌, arith}
 use Rattle.std.specs.Prelude.{T, option_map}
 use Rattle.std.specs.List.{AllByRecursion}
 use Rattle.std.specs.FinMap.{get, get-from_sorted, is_sorted}
@@ -25,7 +25,8 @@ none_mapped : (g : Item → Entity) (o : Option Item) → option_map g o ≡ Non
 none_mapped g None h = refl
 none_mapped g (Some x) h = absurd (cc)
 
-get-links : (S : Shape) (t : Tag) → T (is_sorted tag_cmp S) → get (links S) t ≡ option_map (entity_of S t) (item_at S t)
+-- what the map of a shape has under a tag
+pub get-links : (S : Shape) (t : Tag) → T (is_sorted tag_cmp S) → get (links S) t ≡ option_map (entity_of S t) (item_at S t)
 unfolding links
 get-links S t sorted = get-from_sorted tag_cmp (entities_of S) t (subst T (sym (is_sorted-map (λ x. entity_of S x.0 x.1) S)) sorted) ∙ entity-found S t
 
@@ -43,3 +44,16 @@ keeps-by_row c h m tags o may is =
 
 pub free_at : (S : Shape) (tags : List Tag) (i : ℕ) → AllByRecursion (λ t. item_at S t ≡ None) tags → i < length tags → item_at S (tag_at tags i) ≡ None
 free_at S tags i free less = ByRecursion-get_or (λ t. item_at S t ≡ None) tags i (tag 0) less free
+
+-- tags that ascend are in the order of their places, and so are different
+pub ordered_at : (tags : List Tag) (i j : ℕ) → TagsAscend tags → i < j → j < length tags → (tag_at tags i).0 < (tag_at tags j).0
+ordered_at [] i j a h k = absurd (omega arith)
+ordered_at (t ∷ ts) i zero a h k = absurd (omega arith)
+ordered_at (t ∷ ts) zero (suc j) a h k = ByRecursion-get_or (λ u. t.0 < u.0) ts j (tag 0) (omega arith) a.0
+ordered_at (t ∷ ts) (suc i) (suc j) a h k = ordered_at ts i j a.1 (omega arith) (omega arith)
+
+pub apart_at : (tags : List Tag) (i j : ℕ) → TagsAscend tags → i < j → j < length tags → tag_at tags i ≢ tag_at tags j
+apart_at tags i j a h k = λ e.
+    let less = ordered_at tags i j a h k in
+    let same : (tag_at tags i).0 ≡ (tag_at tags j).0 = ap (λ (u : Tag). u.0) e in
+    omega (arith, less, same)

@@ -1,6 +1,6 @@
 -- Shapes with the same bodies, fins, edges and vertices, and with the same loops but for their faces.
-use Rattle.std.proofs.Common.{◌≡◌, ◌≢◌, ℕ, ◌+◌, ◌<◌, ◌≤◌, ⊎_elim, Bool, true, false, not, cond, List, [], ◌∷◌, Option, Some, None, refl, sym, ap, subst, ◌∙◌, arith}
-use Rattle.std.specs.Prelude.{T, ℤ, pos, ◌+ℤ◌, ◌-ℤ◌, ◌*ℤ◌, ◌&&◌, filter, IsTrue, option_map, is_some, Contains}
+use Rattle.std.proofs.Common.{◌≡◌, ◌≢◌, ℕ, ⊎_elim, Bool, true, false, cond, List, [], ◌∷◌, Option, Some, None, refl, sym, ap, subst, ◌∙◌, arith}
+use Rattle.std.specs.Prelude.{T, ℤ, pos, ◌&&◌, filter, option_map}
 use Rattle.std.specs.Option.{option_and_then, option_map_or}
 use Rattle.std.specs.List.{AllByRecursion, sum_by}
 use Rattle.std.specs.FinMap.{is_sorted, put}
@@ -17,20 +17,18 @@ use Rattle.pk_model.specs.Maps.{tag_cmp}
 use Rattle.pk_model.proofs.TagLists.{tag_total, ByRecursion-weaker}
 use Rattle.solid_model.specs.Items.{Item, Shape, item_at, class_of_item}
 use Rattle.solid_model.specs.Items.Item.{Body, Shell, Face, Loop, Fin, Edge, Vertex, Attr}
-use Rattle.solid_model.specs.Rings.{neighbours, from_least}
-use Rattle.solid_model.specs.Owners.{fins_of, same_class, body_of, number_in_body}
+use Rattle.solid_model.specs.Rings.{neighbours}
+use Rattle.solid_model.specs.Owners.{fins_of, same_class}
 use Rattle.solid_model.specs.Places.{mate_of, mate_at, vertex_of, start_at}
 use Rattle.solid_model.specs.Links.{is_fin_of}
-use Rattle.solid_model.specs.Sound.{IsWritten, IsSoundShape, HasShell, IsMated, ComesAfter, GoesRound, MeetsEulerPoincare, NamesItsKind, class_at, times_in_loops, fins_with_edge, end_of, is_alone_in, loops_alone_at, is_empty, optional, AreOf}
+use Rattle.solid_model.specs.Sound.{IsWritten, IsMated, ComesAfter, GoesRound, NamesItsKind, class_at, times_in_loops, fins_with_edge, end_of, is_alone_in, loops_alone_at, optional, AreOf}
 use Rattle.solid_sound.proofs.Lists.{times}
 use Rattle.solid_sound.proofs.Lookups.{put-same, put-other, filter-sorted, filter-kept}
 use Rattle.solid_sound.proofs.Found.{none_or_some, same_or_other, filter-none, filter-lost}
 use Rattle.solid_sound.proofs.Names.{NotAttr}
-use Rattle.solid_sound.proofs.Numbers.{number-alike, counts_in}
-use Rattle.solid_sound.proofs.Sums.{sum-alike, sum-put, sum-left}
+use Rattle.solid_sound.proofs.Numbers.{counts_in}
+use Rattle.solid_sound.proofs.Sums.{sum-put, sum-left}
 use Rattle.solid_sound.proofs.Bones.{sum-every}
-use Rattle.solid_sound.proofs.Bodies.{LeadsUp, leads_up, body_of-leads, item_of_class, low_item, agreed-LeadsUp}
-use Rattle.solid_sound.proofs.EachItem.{SoundLoop, SoundFin}
 use Rattle.solid_sound.proofs.RowKeeps.{IsWell}
 
 -- the item without the q of a shell and the face of a loop; no face, and no attribute

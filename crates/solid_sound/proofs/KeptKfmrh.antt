@@ -1,47 +1,42 @@
 -- The row kfmrh keeps soundness.
-use Rattle.std.proofs.Common.{◌≡◌, ◌≢◌, ℕ, suc, ◌+◌, ◌<◌, ◌≤◌, ⊎_elim, Bool, true, false, not, ◌||◌, cond, List, [], ◌∷◌, length, Option, Some, None, Result, Ok, Err, refl, sym, ap, subst, ◌∙◌, arith}
-use Rattle.std.specs.Prelude.{T, ℤ, pos, ◌+ℤ◌, ◌-ℤ◌, ◌*ℤ◌, ◌&&◌, filter, IsTrue, option_map, unwrap_or, nat_lt, Contains}
-use Rattle.std.specs.Option.{option_and_then, option_map_or}
-use Rattle.std.specs.List.{AllByRecursion, sum_by}
-use Rattle.std.specs.Ordering.{eq_by_cmp}
+use Rattle.std.proofs.Common.{◌≡◌, ◌≢◌, ℕ, suc, ◌+◌, ⊎_elim, Bool, true, false, not, ◌||◌, cond, List, [], ◌∷◌, length, Option, Some, None, refl, sym, ap, subst, ◌∙◌, arith}
+use Rattle.std.specs.Prelude.{T, ℤ, pos, ◌+ℤ◌, ◌-ℤ◌, ◌*ℤ◌, ◌&&◌, filter, option_map, nat_lt, Contains}
+use Rattle.std.specs.Option.{option_map_or}
+use Rattle.std.specs.List.{sum_by}
 use Rattle.std.specs.FinMap.{is_sorted, put}
-use Rattle.std.specs.FinMap.Entries.{is_sorted-put, below_all}
+use Rattle.std.specs.FinMap.Entries.{is_sorted-put}
 use Rattle.std.proofs.lemmas.Bool.{true≢false, cases_Bool, or_cases}
 use Rattle.std.proofs.lemmas.Bool.Decides.{nat_tests}
 use Rattle.std.proofs.lemmas.Int.{ints}
 use Rattle.std.proofs.lemmas.Option.{same_Some}
-use Rattle.pk_base.specs.Blocks.{tag}
 use Rattle.pk_base.specs.Entity.{same_tag, same_optional}
-use Rattle.pk_base.specs.declared.refusal.Refusal.TheVariants.{IsOuter, NotOneBody, SameFace, HasRings}
+use Rattle.pk_base.specs.declared.refusal.Refusal.TheVariants.{NotOneBody, SameFace, HasRings}
 use Rattle.pk_base.specs.declared.tag.Tag.{Tag}
 use Rattle.pk_base.specs.declared.entity.Name.{Name}
 use Rattle.pk_base.specs.declared.entity.Class.{Class}
 use Rattle.pk_base.specs.declared.entity.Class.TheVariants as class
 use Rattle.pk_model.specs.Maps.{tag_cmp}
-use Rattle.pk_model.specs.Tags.{tag_at}
 use Rattle.pk_model.proofs.TagLists.{tag_total, contains_only}
 use Rattle.solid_model.specs.Items.{Item, Shape, item_at, class_of_item, ◌with◌}
 use Rattle.solid_model.specs.Items.Item.{Body, Shell, Face, Loop, Fin, Edge, Vertex, Attr}
 use Rattle.solid_model.specs.Rings.{is_among}
-use Rattle.solid_model.specs.Owners.{fins_of, same_class, owner_of_item, owner_in, body_of, number_in_body, has_rings, parts_of_class}
-use Rattle.solid_model.specs.Rows.{refuse_where, ◌>>◌}
-use Rattle.solid_model.specs.Places.{asked, PlacedLoop, placed_loop, as_loop, loop_at, PlacedFace, as_face, face_at, outer_of, outer_at, q_of, q_at, lone_of, in_face}
-use Rattle.solid_model.specs.RingMove.{ringmove}
-use Rattle.solid_model.specs.Mfkrh.{mfkrh}
+use Rattle.solid_model.specs.Owners.{same_class, owner_of_item, body_of, number_in_body, has_rings, parts_of_class}
+use Rattle.solid_model.specs.Rows.{refuse_where}
+use Rattle.solid_model.specs.Places.{face_at, q_at, in_face}
 use Rattle.solid_model.specs.Kfmrh.{kfmrh}
 use Rattle.solid_model.specs.Deaths.{is_attribute_of, dies_with, ◌without◌}
-use Rattle.solid_model.specs.Sound.{IsWritten, IsSoundShape, HasShell, HasAttributes, MeetsEulerPoincare, NamesItsKind, class_at, optional, AreOf}
+use Rattle.solid_model.specs.Sound.{MeetsEulerPoincare, class_at}
 use Rattle.solid_sound.proofs.Lists.{same_itself, same_means, differs_means, not_same, is_among-in, in-is_among, not_among, not_in_nil, contains_first, among-map}
 use Rattle.solid_sound.proofs.Lookups.{put-same, put-other, filter-was, filter-kept}
 use Rattle.solid_sound.proofs.Found.{same_or_other, item-among}
 use Rattle.solid_sound.proofs.Names.{NotAttr}
-use Rattle.solid_sound.proofs.Numbers.{attr_or_not, number-alike, number-attribute, number-elsewhere, counts_in}
+use Rattle.solid_sound.proofs.Numbers.{number-attribute, counts_in}
 use Rattle.solid_sound.proofs.Sums.{weight_at, sum-alike, sum-put, sum-filter, sum-but}
-use Rattle.solid_sound.proofs.Bodies.{LeadsUp, leads_up, body_of-leads, item_of_class, low_item, agreed-LeadsUp, body_or_new, new-body, old-body}
-use Rattle.solid_sound.proofs.EachItem.{LeadsFrom, leads-by_item, item-leads, SoundItem, SoundBody, SoundFace, SoundLoop, SoundFin, sound-by_item, item-of_sound, OneOfName}
-use Rattle.solid_sound.proofs.Frames.{SameFrame, frame, frame_of, same_frame-put, same_frame-left, same_frame-trans, NotFace, frame_back, frame_forth, loop_back, loop_forth, shell_back, shell_forth, frame_class, frame_placed, frame_edges, frame_mated, frame_follow, frame_round, frame_written, frame_kinds, class-ByFrame, sums_by}
+use Rattle.solid_sound.proofs.Bodies.{LeadsUp, leads_up, item_of_class}
+use Rattle.solid_sound.proofs.EachItem.{SoundFace}
+use Rattle.solid_sound.proofs.Frames.{SameFrame, frame, frame_of, same_frame-put, same_frame-left, same_frame-trans}
 use Rattle.solid_sound.proofs.RowKeeps.{IsWell, Keeps, keeps-after, keeps-bind, not_refused}
-use Rattle.solid_sound.proofs.KeptRings.{Refaced, refaced-well, apart, free_apart, face_of_class, asked_loop, asked_face, FaceIn, face_in, in_face-is, not_false}
+use Rattle.solid_sound.proofs.KeptRings.{Refaced, refaced-well, apart, asked_face, FaceIn, face_in, in_face-is, not_false}
 
 -- one face less of the same loops, and one handle less
 formula-less : (v e f l : ℕ) (q : ℤ) → ((pos v -ℤ pos e) +ℤ pos (1 + f)) -ℤ (pos l -ℤ pos (1 + f)) ≡ pos 2 *ℤ q
@@ -287,7 +282,7 @@ module _ (S : Shape) (well : IsWell S) (l a b shell_a outer_a shell : Tag) (fins
   face-killed = refaced-well S R (body_of S) well face_killed
 
 -- a list of one tag or none has no two
-no_two : (ts : List Tag) (t u : Tag) → nat_lt 1 (length ts) ≡ false → Contains ts t → Contains ts u → t ≡ u
+pub no_two : (ts : List Tag) (t u : Tag) → nat_lt 1 (length ts) ≡ false → Contains ts t → Contains ts u → t ≡ u
 no_two [] t u h k m = absurd (not_in_nil t k)
 no_two (x ∷ []) t u h k m = sym (contains_only x t k) ∙ contains_only x u m
 no_two (x ∷ y ∷ ts) t u h k m = absurd (more (length ts) h)
@@ -295,7 +290,7 @@ no_two (x ∷ y ∷ ts) t u h k m = absurd (more (length ts) h)
     more : (n : ℕ) → nat_lt 1 (suc (suc n)) ≡ false → ⊥
     more n h = grind (arith, nat_tests)
 
-loop_among_parts : (S : Shape) (k f : Tag) (fs : List Tag) (v : Option Tag) → item_at S k ≡ Some (Loop f fs v) → Contains (parts_of_class class.Loop S f) k
+pub loop_among_parts : (S : Shape) (k f : Tag) (fs : List Tag) (v : Option Tag) → item_at S k ≡ Some (Loop f fs v) → Contains (parts_of_class class.Loop S f) k
 loop_among_parts S k f fs v e =
     let p = λ (x : Tag × Item). same_class (class_of_item x.1) class.Loop && same_optional (owner_of_item S x.0 x.1) (Some f) in
     among-map (λ (x : Tag × Item). x.0) (filter p S) (k, Loop f fs v) (item-among (filter p S) k (Loop f fs v) (filter-kept p S k (Loop f fs v) e (same_itself f)))

@@ -1,47 +1,38 @@
 -- The row mfkrh keeps soundness.
-use Rattle.std.proofs.Common.{◌≡◌, ◌≢◌, ℕ, suc, ◌+◌, ◌<◌, ◌≤◌, ⊎_elim, Bool, true, false, not, ◌||◌, cond, List, [], ◌∷◌, length, Option, Some, None, Result, Ok, Err, refl, sym, ap, subst, ◌∙◌, arith}
-use Rattle.std.specs.Prelude.{T, ℤ, pos, ◌+ℤ◌, ◌-ℤ◌, ◌*ℤ◌, ◌&&◌, filter, IsTrue, option_map, unwrap_or, nat_lt, Contains}
-use Rattle.std.specs.Option.{option_and_then, option_map_or}
-use Rattle.std.specs.List.{AllByRecursion, sum_by}
-use Rattle.std.specs.Ordering.{eq_by_cmp}
+use Rattle.std.proofs.Common.{◌≡◌, ◌≢◌, ℕ, ◌+◌, ◌≤◌, ⊎_elim, false, cond, List, [], ◌∷◌, length, Option, Some, None, refl, sym, ap, subst, ◌∙◌, arith}
+use Rattle.std.specs.Prelude.{T, ℤ, pos, ◌+ℤ◌, ◌-ℤ◌, ◌*ℤ◌, option_map}
+use Rattle.std.specs.Option.{option_map_or}
+use Rattle.std.specs.List.{sum_by}
 use Rattle.std.specs.FinMap.{is_sorted, put}
-use Rattle.std.specs.FinMap.Entries.{is_sorted-put, below_all}
-use Rattle.std.proofs.lemmas.Bool.{true≢false, cases_Bool, or_cases}
-use Rattle.std.proofs.lemmas.Bool.Decides.{nat_tests}
+use Rattle.std.specs.FinMap.Entries.{is_sorted-put}
 use Rattle.std.proofs.lemmas.Int.{ints}
-use Rattle.std.proofs.lemmas.Option.{same_Some}
 use Rattle.pk_base.specs.Blocks.{tag}
-use Rattle.pk_base.specs.Entity.{same_tag, same_optional}
-use Rattle.pk_base.specs.declared.refusal.Refusal.TheVariants.{IsOuter, NotOneBody, SameFace, HasRings}
+use Rattle.pk_base.specs.Entity.{same_tag}
+use Rattle.pk_base.specs.declared.refusal.Refusal.TheVariants.{IsOuter}
 use Rattle.pk_base.specs.declared.tag.Tag.{Tag}
 use Rattle.pk_base.specs.declared.entity.Name.{Name}
 use Rattle.pk_base.specs.declared.entity.Class.{Class}
 use Rattle.pk_base.specs.declared.entity.Class.TheVariants as class
 use Rattle.pk_model.specs.Maps.{tag_cmp}
 use Rattle.pk_model.specs.Tags.{tag_at}
-use Rattle.pk_model.proofs.TagLists.{tag_total, contains_only}
+use Rattle.pk_model.proofs.TagLists.{tag_total}
 use Rattle.solid_model.specs.Items.{Item, Shape, item_at, class_of_item, ◌with◌}
-use Rattle.solid_model.specs.Items.Item.{Body, Shell, Face, Loop, Fin, Edge, Vertex, Attr}
-use Rattle.solid_model.specs.Rings.{is_among}
-use Rattle.solid_model.specs.Owners.{fins_of, same_class, owner_of_item, owner_in, body_of, number_in_body, has_rings, parts_of_class}
-use Rattle.solid_model.specs.Rows.{refuse_where, ◌>>◌}
-use Rattle.solid_model.specs.Places.{asked, PlacedLoop, placed_loop, as_loop, loop_at, PlacedFace, as_face, face_at, outer_of, outer_at, q_of, q_at, lone_of, in_face}
-use Rattle.solid_model.specs.RingMove.{ringmove}
+use Rattle.solid_model.specs.Items.Item.{Body, Shell, Face, Loop, Attr}
+use Rattle.solid_model.specs.Owners.{same_class, body_of, number_in_body}
+use Rattle.solid_model.specs.Rows.{refuse_where}
+use Rattle.solid_model.specs.Places.{PlacedLoop, loop_at, outer_of, outer_at, q_at}
 use Rattle.solid_model.specs.Mfkrh.{mfkrh}
-use Rattle.solid_model.specs.Kfmrh.{kfmrh}
-use Rattle.solid_model.specs.Deaths.{is_attribute_of, dies_with, ◌without◌}
-use Rattle.solid_model.specs.Sound.{IsWritten, IsSoundShape, HasShell, HasAttributes, MeetsEulerPoincare, NamesItsKind, class_at, optional, AreOf}
-use Rattle.solid_sound.proofs.Lists.{same_itself, same_means, differs_means, not_same, is_among-in, in-is_among, not_among, not_in_nil, contains_first, among-map}
-use Rattle.solid_sound.proofs.Lookups.{put-same, put-other, filter-was, filter-kept}
-use Rattle.solid_sound.proofs.Found.{same_or_other, item-among}
-use Rattle.solid_sound.proofs.Names.{NotAttr}
-use Rattle.solid_sound.proofs.Numbers.{attr_or_not, number-alike, number-attribute, number-elsewhere, counts_in}
-use Rattle.solid_sound.proofs.Sums.{weight_at, sum-alike, sum-put, sum-filter, sum-but}
-use Rattle.solid_sound.proofs.Bodies.{LeadsUp, leads_up, body_of-leads, item_of_class, low_item, agreed-LeadsUp, body_or_new, new-body, old-body}
-use Rattle.solid_sound.proofs.EachItem.{LeadsFrom, leads-by_item, item-leads, SoundItem, SoundBody, SoundFace, SoundLoop, SoundFin, sound-by_item, item-of_sound, OneOfName}
-use Rattle.solid_sound.proofs.Frames.{SameFrame, frame, frame_of, same_frame-put, same_frame-left, same_frame-trans, NotFace, frame_back, frame_forth, loop_back, loop_forth, shell_back, shell_forth, frame_class, frame_placed, frame_edges, frame_mated, frame_follow, frame_round, frame_written, frame_kinds, class-ByFrame, sums_by}
+use Rattle.solid_model.specs.Sound.{MeetsEulerPoincare, class_at}
+use Rattle.solid_sound.proofs.Lists.{same_itself, differs_means, not_same}
+use Rattle.solid_sound.proofs.Lookups.{put-same, put-other}
+use Rattle.solid_sound.proofs.Found.{same_or_other}
+use Rattle.solid_sound.proofs.Numbers.{counts_in}
+use Rattle.solid_sound.proofs.Sums.{weight_at, sum-alike, sum-put}
+use Rattle.solid_sound.proofs.Bodies.{LeadsUp, item_of_class, agreed-LeadsUp, body_or_new, new-body, old-body}
+use Rattle.solid_sound.proofs.EachItem.{SoundFace}
+use Rattle.solid_sound.proofs.Frames.{SameFrame, frame_of, same_frame-put, same_frame-trans}
 use Rattle.solid_sound.proofs.RowKeeps.{IsWell, Keeps, keeps-after, keeps-bind, not_refused}
-use Rattle.solid_sound.proofs.KeptRings.{Refaced, refaced-well, apart, free_apart, face_of_class, asked_loop, asked_face, FaceIn, face_in, in_face-is, not_false}
+use Rattle.solid_sound.proofs.KeptRings.{Refaced, refaced-well, apart, free_apart, face_of_class, asked_loop, FaceIn, face_in, in_face-is}
 
 -- ---- the formula
 

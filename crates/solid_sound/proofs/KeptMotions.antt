@@ -163,7 +163,7 @@ point_among (y ∷ S) b v body p e l =
     among_kept (point_in b y.1) (points_of S b) p (point_among S b v body p (sym (ap (λ c. cond c (Some y.1) (item_at S v)) r) ∙ e) l))
     (cases_Bool (eq_by_cmp tag_cmp v y.0))
 
-flat_map-among : {A B : Type 0} (f : A → List B) (xs : List A) (x : A) (y : B) → Contains xs x → Contains (f x) y → Contains (flat_map f xs) y
+pub flat_map-among : {A B : Type 0} (f : A → List B) (xs : List A) (x : A) (y : B) → Contains xs x → Contains (f x) y → Contains (flat_map f xs) y
 flat_map-among f [] x y k l = absurd (not_in_nil x k)
 flat_map-among f (z ∷ xs) x y k l = subst (λ ys. Contains ys y) (sym (flat_map-cons f z xs))
     (⊎_elim (λ (h : z ≡ x). Contains-append_left (f z) (flat_map f xs) y (subst (λ u. Contains (f u) y) (sym h) l))

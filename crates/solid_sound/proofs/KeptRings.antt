@@ -1,43 +1,33 @@
 -- The rows that give a loop to another face keep soundness: mfkrh, kfmrh and ringmove.
-use Rattle.std.proofs.Common.{◌≡◌, ◌≢◌, ℕ, ◌+◌, ◌<◌, ◌≤◌, ⊎_elim, Bool, true, false, not, ◌||◌, cond, List, [], ◌∷◌, length, Option, Some, None, Result, Ok, Err, refl, sym, ap, subst, ◌∙◌, arith}
-use Rattle.std.specs.Prelude.{T, ℤ, pos, ◌+ℤ◌, ◌-ℤ◌, ◌*ℤ◌, ◌&&◌, filter, IsTrue, option_map, unwrap_or, Contains}
+use Rattle.std.proofs.Common.{◌≡◌, ◌≢◌, ⊎_elim, Bool, true, false, not, List, [], ◌∷◌, Option, Some, None, Ok, refl, sym, ap, subst, ◌∙◌, arith}
+use Rattle.std.specs.Prelude.{ℤ, pos, ◌+ℤ◌, ◌-ℤ◌, option_map, unwrap_or}
 use Rattle.std.specs.Option.{option_and_then, option_map_or}
 use Rattle.std.specs.List.{AllByRecursion, sum_by}
-use Rattle.std.specs.Ordering.{eq_by_cmp}
-use Rattle.std.specs.FinMap.{is_sorted, put}
-use Rattle.std.specs.FinMap.Entries.{is_sorted-put, below_all}
-use Rattle.std.proofs.lemmas.Bool.{true≢false, cases_Bool, or_cases}
-use Rattle.std.proofs.lemmas.Int.{ints}
+use Rattle.std.specs.FinMap.{put}
 use Rattle.std.proofs.lemmas.Option.{same_Some}
 use Rattle.pk_base.specs.Blocks.{tag}
 use Rattle.pk_base.specs.Entity.{same_tag}
-use Rattle.pk_base.specs.declared.refusal.Refusal.TheVariants.{IsOuter, NotOneBody, SameFace, HasRings}
+use Rattle.pk_base.specs.declared.refusal.Refusal.TheVariants.{IsOuter, NotOneBody, SameFace}
 use Rattle.pk_base.specs.declared.tag.Tag.{Tag}
-use Rattle.pk_base.specs.declared.entity.Name.{Name}
 use Rattle.pk_base.specs.declared.entity.Class.{Class}
 use Rattle.pk_base.specs.declared.entity.Class.TheVariants as class
 use Rattle.pk_model.specs.Maps.{tag_cmp}
-use Rattle.pk_model.proofs.TagLists.{tag_total, ByRecursion-at, ByRecursion-contains}
-use Rattle.solid_model.specs.Items.{Item, Shape, item_at, class_of_item, ◌with◌}
+use Rattle.solid_model.specs.Items.{Item, Shape, item_at, class_of_item}
 use Rattle.solid_model.specs.Items.Item.{Body, Shell, Face, Loop, Fin, Edge, Vertex, Attr}
-use Rattle.solid_model.specs.Rings.{is_among}
-use Rattle.solid_model.specs.Owners.{fins_of, same_class, owner_of_item, owner_in, body_of, number_in_body, has_rings}
-use Rattle.solid_model.specs.Rows.{refuse_where, ◌>>◌}
+use Rattle.solid_model.specs.Owners.{fins_of, same_class, owner_of_item, owner_in, body_of, number_in_body}
+use Rattle.solid_model.specs.Rows.{refuse_where}
 use Rattle.solid_model.specs.Places.{asked, PlacedLoop, placed_loop, as_loop, loop_at, PlacedFace, as_face, face_at, outer_of, outer_at, q_of, q_at, lone_of, in_face}
 use Rattle.solid_model.specs.RingMove.{ringmove}
-use Rattle.solid_model.specs.Mfkrh.{mfkrh}
-use Rattle.solid_model.specs.Kfmrh.{kfmrh}
-use Rattle.solid_model.specs.Deaths.{is_attribute_of, dies_with, ◌without◌}
-use Rattle.solid_model.specs.Sound.{IsWritten, IsSoundShape, HasShell, HasAttributes, MeetsEulerPoincare, NamesItsKind, class_at, optional, AreOf}
-use Rattle.solid_sound.proofs.Lists.{same_itself, same_means, differs_means, not_same}
+use Rattle.solid_model.specs.Sound.{HasAttributes, MeetsEulerPoincare, NamesItsKind, class_at, optional, AreOf}
+use Rattle.solid_sound.proofs.Lists.{same_means, differs_means}
 use Rattle.solid_sound.proofs.Lookups.{put-same, put-other}
 use Rattle.solid_sound.proofs.Found.{same_or_other}
 use Rattle.solid_sound.proofs.Names.{NotAttr}
-use Rattle.solid_sound.proofs.Numbers.{attr_or_not, number-alike, number-attribute, number-elsewhere, counts_in}
-use Rattle.solid_sound.proofs.Sums.{Weight, weight_at, sum-alike, sum-put, sum-left}
-use Rattle.solid_sound.proofs.Bodies.{LeadsUp, leads_up, body_of-leads, item_of_class, low_item, agreed-LeadsUp, body_or_new, new-body, old-body}
-use Rattle.solid_sound.proofs.EachItem.{LeadsFrom, leads-by_item, item-leads, SoundItem, SoundBody, SoundFace, SoundLoop, SoundFin, sound-by_item, item-of_sound, OneOfName}
-use Rattle.solid_sound.proofs.Frames.{SameFrame, frame, frame_of, same_frame-put, same_frame-left, same_frame-trans, NotFace, frame_back, frame_forth, loop_back, loop_forth, shell_back, shell_forth, frame_class, frame_placed, frame_edges, frame_mated, frame_follow, frame_round, frame_written, frame_kinds, class-ByFrame, sums_by}
+use Rattle.solid_sound.proofs.Numbers.{number-alike, counts_in}
+use Rattle.solid_sound.proofs.Sums.{weight_at, sum-alike, sum-put}
+use Rattle.solid_sound.proofs.Bodies.{LeadsUp, leads_up, body_of-leads, item_of_class, low_item, agreed-LeadsUp}
+use Rattle.solid_sound.proofs.EachItem.{SoundItem, SoundFace, sound-by_item, item-of_sound}
+use Rattle.solid_sound.proofs.Frames.{SameFrame, frame_of, same_frame-put, NotFace, frame_back, frame_forth, loop_back, shell_back, shell_forth, frame_class, frame_placed, frame_edges, frame_mated, frame_follow, frame_round, frame_written, frame_kinds, class-ByFrame, sums_by}
 use Rattle.solid_sound.proofs.RowKeeps.{IsWell, Keeps, keeps-after, keeps-bind, not_refused}
 
 -- What is shown of faces, and of the body of each item, where R has the frame of S; g is the body of

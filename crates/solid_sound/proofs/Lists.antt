@@ -215,7 +215,7 @@ alone_in_ring f ring once k own =
         apart f g [] post once e = once.0.0 (sym e)
         apart f g (q ∷ pre) post once e = apart f g pre post once.1 e
 
-neighbours_from-in : {A : Type 0} (first x : A) (ys : List A) (n : A × A) → Contains (neighbours_from first x ys) n → Contains (x ∷ ys) n.0 × ((n.1 ≡ first) ⊎ Contains ys n.1)
+pub neighbours_from-in : {A : Type 0} (first x : A) (ys : List A) (n : A × A) → Contains (neighbours_from first x ys) n → Contains (x ∷ ys) n.0 × ((n.1 ≡ first) ⊎ Contains ys n.1)
 neighbours_from-in {A = A} first x [] n k =
     ⊎_elim {C = Contains (x ∷ []) n.0 × ((n.1 ≡ first) ⊎ Contains [] n.1)}
     (λ (e : (x, first) ≡ n). (subst (Contains (x ∷ [])) (ap (λ (m : A × A). m.0) e) (contains_first x []), inl (sym (ap (λ (m : A × A). m.1) e))))

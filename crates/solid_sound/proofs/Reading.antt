@@ -41,7 +41,7 @@ next_in-parts f pre post h =
     ap (λ (ts : List Tag). head_or f (drop 1 (ts ++ before f (pre ++ f ∷ post)))) p.1 ∙ ap (λ (ts : List Tag). head_or f (post ++ ts)) p.0
 
 -- the first part does not have f
-not_before : (f : Tag) (pre post : List Tag) → NoRepeats (pre ++ f ∷ post) → ¬ (Contains pre f)
+pub not_before : (f : Tag) (pre post : List Tag) → NoRepeats (pre ++ f ∷ post) → ¬ (Contains pre f)
 not_before f [] post h k = not_in_nil f k
 not_before f (t ∷ pre) post h k =
     ⊎_elim (λ (e : t ≡ f). ByRecursion-at (λ u. t ≢ u) (pre ++ f ∷ post) f h.0 (in_middle f pre post) e)

@@ -3,6 +3,7 @@ ghost use Rattle.pk_base.specs.declared.tag.Tag.{Tag};
 ghost use Rattle.pk_base.specs.declared.call.Call.{Call};
 ghost use Rattle.pk_base.specs.declared.refusal.Refusal.{Refusal};
 ghost use Rattle.pk_model.specs.Maps.{EntityMap};
+ghost use Rattle.pk_model.specs.Modelling.{IsModeller};
 ghost use Rattle.solid_model.specs.Shapes.{shape_of};
 ghost use Rattle.solid_model.specs.Sound.{IsSound};
 ghost use Rattle.solid_model.specs.Euler.{euler};
@@ -20,4 +21,9 @@ pub fn a_refusal_takes_nothing()
         → euler.step m c tags ≡ Err e → euler.step m c other ≡ Err e }
     ensures free { (m : EntityMap) (c : Call) (tags : List Tag) (e : Refusal)
         → euler.step m c tags ≡ Err e → euler.cost m c ≡ 0 }
+{}
+
+/// The modelling of all calls is what is asked of a modeller.
+pub fn euler_is_a_modeller()
+    ensures { IsModeller euler }
 {}

@@ -1,0 +1,19 @@
+use Rattle.pk_base.specs.declared.call.Call.TheVariants.{Ask, Kids, Ring, Counts, Bodies}
+use Rattle.solid_model.specs.Places.{live_at, body_at, loop_at}
+use Rattle.solid_sound.proofs.Queries.{tells-bind, told-same}
+use Rattle.solid_sound.proofs.keeping.queries_change_nothing.Goals as goal
+
+pub returns-clause-ask : goal.returns-clause-ask
+returns-clause-ask c = λ t. told-same (Ask t) (λ S. tells-bind (live_at S t) _ (λ x. tt))
+
+pub returns-clause-kids : goal.returns-clause-kids
+returns-clause-kids c = λ t. told-same (Kids t) (λ S. tells-bind (live_at S t) _ (λ x. tt))
+
+pub returns-clause-ring : goal.returns-clause-ring
+returns-clause-ring c = λ ring. told-same (Ring ring) (λ S. tells-bind (loop_at S ring) _ (λ x. tt))
+
+pub returns-clause-counts : goal.returns-clause-counts
+returns-clause-counts c = λ body. told-same (Counts body) (λ S. tells-bind (body_at S body) _ (λ x. tt))
+
+pub returns-clause-bodies : goal.returns-clause-bodies
+returns-clause-bodies c = told-same Bodies (λ S. tt)
