@@ -1,5 +1,5 @@
--- What a run promises, in four parts: what was read, the report, what was written, and the cause of
--- each status. A source and a sink are seen by what they tell.
+-- What a run promises, in parts: what was read, the report, what was written, and the cause of each
+-- status. A source and a sink are seen by what they tell.
 use Rattle.std.specs.Prelude.{◌≡◌, ◌⊎◌, ◌↔◌, ℕ, ◌+◌, ◌≤◌, nat_lt, List, length, take, Option, None, IfSome, IsSome, MatchBool, MatchOption, MatchResult, IsOkAnd, Some, Result, Ok, Err, ⊤}
 use Rattle.pk_model.specs.Modelling.{Modelling}
 use Rattle.pk_model.specs.Apart.{Apart}
@@ -12,6 +12,7 @@ use Rattle.script_text.specs.declared.script.Cause.TheVariants.{NotBuilt}
 use Rattle.script_text.specs.declared.report.Report.{Report}
 use Rattle.script_text.specs.declared.reading.fault.ScriptNo.{ScriptNo}
 use Rattle.script_text.specs.declared.reading.fault.ScriptNo.TheVariants.{Bad, NoMemory as OutOfMemory}
+use Rattle.serial_run.specs.Serial.{serial}
 use Rattle.script_runner.specs.Built.{unbuilt_in}
 use Rattle.script_runner.specs.Statuses.{HasRun, IsFinished, IsJudged, status_of}
 use Rattle.script_runner.specs.declared.run.Status.{Status}
@@ -27,6 +28,10 @@ pub record IsLawful (K : Modelling) (r : Report) : Type 0 where
 -- the bytes are a script, and the report is a legal one of it
 abbrev pub IsReportOf : Modelling → List ℕ → Report → Type 0
 IsReportOf K bytes r = IsOkAnd (script_of bytes) (λ script. LegalReport K script r)
+
+-- the bytes are a script, and the report is the one that turns of its threads give
+abbrev pub IsSerialReportOf : Modelling → List ℕ → Report → Type 0
+IsSerialReportOf K bytes r = IsOkAnd (script_of bytes) (λ script. r ≡ serial K script)
 
 -- the bytes are a script that is carried out
 abbrev pub IsRunnable : List ℕ → Type 0
@@ -55,7 +60,7 @@ abbrev pub JudgesAs : {A : Type 0} → List ℕ → Result A ScriptNo → Type 0
 JudgesAs bytes (Ok made) = IsRunnable bytes
 JudgesAs bytes (Err e) = IsRefusedFor bytes e
 
--- ---- the four parts
+-- ---- the parts
 
 -- What was read, of a source that tells these: the bytes that are left, its calls and its faults.
 pub record WasRead {A : Type 0} (left : A → Option (List ℕ)) (calls faults : A → ℕ)
@@ -79,6 +84,12 @@ pub record IsReported (K : Modelling) (bytes : Option (List ℕ)) (ending : Stat
   pub lawful : IfSome made (IsLawful K)
   pub legal : IfSome made (λ r. IfSome bytes (λ given. IsReportOf K given r))
 
+-- The report is the serial one of these bytes, where the source told them. So it is a function of
+-- them.
+abbrev pub IsSerial : Modelling → Option (List ℕ) → Option Report → Type 0
+IsSerial K bytes made =
+    IfSome made (λ r. IfSome bytes (λ given. IsSerialReportOf K given r))
+
 -- What was written, to a sink that tells these: the bytes that it holds, its calls and its faults.
 pub record WasWritten {B : Type 0} (held : B → Option (List ℕ)) (calls faults : B → ℕ)
     (old new : B) (ending : Status) (report : Option Report) : Type 0 where
@@ -95,7 +106,9 @@ pub record WasWritten {B : Type 0} (held : B → Option (List ℕ)) (calls fault
 -- faults.
 pub record HasCause (readable : Type 0) (bytes : Option (List ℕ)) (reads reads' writes writes' : ℕ)
     (ending : Status) : Type 0 where
-  pub words : (ending ≡ status.BadWords) ↔ ¬ readable
+  -- the words are not those of the program; with every other end they are, unless memory ran out
+  pub bad_words : ending ≡ status.BadWords → ¬ readable
+  pub good_words : ¬ (ending ≡ status.BadWords) → ¬ (ending ≡ status.NoMemory) → readable
   pub input : IfSome bytes (λ given. (ending ≡ status.BadWords)
       ⊎ ((ending ≡ status.NoMemory) ⊎ ((ending ≡ status.ReadFault) ⊎ EndsFor given ending)))
   -- a fault of reading comes with the first read that fails, and with no other end; so does one of

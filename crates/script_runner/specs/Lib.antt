@@ -2,4 +2,3 @@
 pub mod Statuses
 pub mod Built
 pub mod Headline
-pub mod OneThread

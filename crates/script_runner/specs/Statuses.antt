@@ -7,6 +7,8 @@ use Rattle.script_text.specs.declared.report.LineSaid.{LineSaid}
 use Rattle.script_text.specs.declared.report.LineSaid.TheVariants.{Locked, Unlocked, Ended, Answer, Refused}
 use Rattle.pk_outside.specs.declared.transfer.ReadNo.{ReadNo}
 use Rattle.pk_outside.specs.declared.transfer.ReadNo.TheVariants as no
+use Rattle.session_words.specs.declared.reading.WordsNo.{WordsNo}
+use Rattle.session_words.specs.declared.reading.WordsNo.TheVariants as words
 use Rattle.script_runner.specs.declared.run.Status.{Status}
 use Rattle.script_runner.specs.declared.run.Status.TheVariants as status
 
@@ -25,6 +27,10 @@ abbrev pub status_of_no : ReadNo → Status
 status_of_no no.TooLong = status.TooLong
 status_of_no no.Fault = status.ReadFault
 status_of_no no.NoMemory = status.NoMemory
+
+abbrev pub status_of_words : WordsNo → Status
+status_of_words words.Bad = status.BadWords
+status_of_words words.NoMemory = status.NoMemory
 
 abbrev pub is_refused : LineSaid → Bool
 is_refused (Refused e) = true

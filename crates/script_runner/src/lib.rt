@@ -5,5 +5,4 @@
 pub use run::{Outcome, Status, run_serial};
 
 mod built;
-mod execute;
 mod run;

@@ -1,16 +1,19 @@
-ghost use Rattle.std.specs.Prelude.{◌≡◌, ℕ, ◌+◌, ◌≤◌, ◌⊎◌, ◌↔◌, [], ◌∷◌, length, map, take, codes, string_bytes, option_map, IfOk, IfErr, IsTrue, None, Some};
+ghost use Rattle.std.specs.Prelude.{◌≡◌, ℕ, ◌+◌, ◌≤◌, ◌⊎◌, ◌↔◌, length, map, take, string_bytes, option_map, IfOk, IfErr, IsTrue, None, Some};
 ghost use Rattle.std.specs.List.{list_any};
 ghost use Rattle.modeller.specs.Euler.{euler};
 ghost use Rattle.pk_outside.specs.Outside.{Grows, HasFailed};
 ghost use Rattle.script_text.specs.Form.{script_of};
 ghost use Rattle.script_text.specs.Text.{text_of};
-ghost use Rattle.script_runner.specs.Statuses.{is_refused, number_of_status, status_of, status_of_no};
-ghost use Rattle.script_runner.specs.Headline.{HasCause, IsLawful, IsReported, IsReportOf, JudgesAs, WasRead, WasWritten};
+ghost use Rattle.session_words.specs.Words.{AreReadable};
+ghost use Rattle.script_runner.specs.Statuses.{is_refused, number_of_status, status_of, status_of_no, status_of_words};
+ghost use Rattle.script_runner.specs.Headline.{HasCause, IsLawful, IsReported, IsReportOf, IsSerial, IsSerialReportOf, JudgesAs, WasRead, WasWritten};
 
 use crate::built::unbuilt_in;
-use crate::execute::execute;
+use modeller::Euler;
 use pk_outside::{Failed, ReadNo, Sink, Source, read_all, write_all};
 use script_text::{Cause, LineSaid, Report, SaidList, ScriptNo, Text, read_script, report_text};
+use serial_run::run_by_turns;
+use session_words::{WordsNo, read_words};
 use std::alloc::Global;
 
 /// How a run ended.
@@ -61,31 +64,33 @@ pub struct Outcome {
     pub report: Option<Report>,
 }
 
-/// Reads a script, carries it out by one thread, and writes the report. `words` has no program name
-/// in it.
+/// Reads a script, carries it out by turns of its threads, and writes the report. `words` has no
+/// program name in it; whether `--serial` is among them makes no difference.
 ///
-/// The words are tested first, then the input is read to its end, then it is run, and nothing is
-/// written before the whole text stands in memory. A script with a line that is not carried out yet
-/// ends it as one that is none does. The first read or write that fails ends it. It waits for
-/// nobody, and returns where the source and the sink do.
+/// The words are read first, then the input is read to its end, then it is run, and nothing is
+/// written before the whole text stands in memory. A script with a line that asks for a call which
+/// is not done yet ends it as one that is none does. The first read or write that fails ends it. It
+/// waits for nobody, and returns where the source and the sink do.
 pub fn run_serial<S: Source, K: Sink>(
     alloc: Global,
     words: &[String],
     source: &mut S,
     sink: &mut K,
 ) -> Outcome
-    // What was read of the source; the report, which is the headline; what was written to the sink;
-    // and the cause of each status. `specs/Headline.antt` has the parts of each, by name.
+    // What was read of the source; the report, which is the headline; that it is the serial one;
+    // what was written to the sink; and the cause of each status. `specs/Headline.antt` has the
+    // parts of each, by name.
     ensures read { WasRead S.left S.calls S.faults source.old source.new result.status }
     ensures report { IsReported euler (S.left source.old) result.status result.report }
+    ensures serial { IsSerial euler (S.left source.old) result.report }
     ensures written { WasWritten K.held K.calls K.faults sink.old sink.new result.status
         result.report }
-    ensures cause { HasCause (map string_bytes words.now ≡ codes "--serial" ∷ [])
+    ensures cause { HasCause (AreReadable (map string_bytes words.now))
         (S.left source.old) (S.faults source.old) (S.faults source.new)
         (K.faults sink.old) (K.faults sink.new) result.status }
 {
-    if !are_serial(words) {
-        return without_report(Status::BadWords);
+    if let Err(no) = read_words(alloc, words) {
+        return without_report(ended_by_words(no));
     }
     let bytes = match read_all(alloc, source) {
         Ok(bytes) => bytes,
@@ -98,12 +103,12 @@ pub fn run_serial<S: Source, K: Sink>(
     }
 }
 
-fn are_serial(words: &[String]) -> bool
-    ensures { IsTrue result ↔ (map string_bytes words.now ≡ codes "--serial" ∷ []) }
+fn ended_by_words(no: WordsNo) -> Status
+    ensures { result ≡ status_of_words no }
 {
-    match words {
-        [word] => word.as_str() == "--serial",
-        _ => false,
+    match no {
+        WordsNo::Bad => Status::BadWords,
+        WordsNo::NoMemory => Status::NoMemory,
     }
 }
 
@@ -127,10 +132,11 @@ fn ended_by(no: ReadNo) -> Status
 }
 
 /// The report of the script that the bytes are, and its text. Where they are none, or a line of it
-/// is not carried out yet, the line is refused.
+/// is not carried out yet, that line is told.
 fn report_of(alloc: Global, bytes: &[u8]) -> Result<(Report, Text), ScriptNo>
     ensures lawful { IfOk result (λ r. IsLawful euler r.0) }
     ensures legal { IfOk result (λ r. IsReportOf euler bytes.now r.0) }
+    ensures serial { IfOk result (λ r. IsSerialReportOf euler bytes.now r.0) }
     ensures text { IfOk result (λ r. r.1 ≡ text_of r.0) }
     ensures judged { JudgesAs bytes.now result }
 {
@@ -141,7 +147,7 @@ fn report_of(alloc: Global, bytes: &[u8]) -> Result<(Report, Text), ScriptNo>
             cause: Cause::NotBuilt,
         });
     }
-    let report = execute(alloc, &script)?;
+    let report = run_by_turns(alloc, &script, Euler)?;
     let text = report_text(alloc, &report)?;
     Ok((report, text))
 }

@@ -1,13 +1,14 @@
 -- What a run of the program did, as its words, its source and its sink tell.
-use Rattle.std.specs.Prelude.{◌≡◌, ℕ, ◌⊎◌, List, [], ◌∷◌, codes, Option}
+use Rattle.std.specs.Prelude.{◌≡◌, ℕ, ◌⊎◌, List, Option}
 use Rattle.modeller.specs.Euler.{euler}
-use Rattle.script_runner.specs.Headline.{HasCause, IsReported, WasRead, WasWritten}
+use Rattle.session_words.specs.Words.{AreReadable}
+use Rattle.script_runner.specs.Headline.{HasCause, IsReported, IsSerial, WasRead, WasWritten}
 use Rattle.script_runner.specs.Statuses.{number_of_status}
 use Rattle.script_runner.specs.declared.run.Outcome.{Outcome}
 use Rattle.script_runner.specs.declared.run.Status.{Status}
 use Rattle.script_runner.specs.declared.run.Status.TheVariants as status
 
--- A run of these words, over a source and a sink that were so and now are so: the four parts that
+-- A run of these words, over a source and a sink that were so and now are so: the parts that
 -- `run_serial` promises.
 pub record IsRun {A B : Type 0}
     (left : A → Option (List ℕ)) (reads read_faults : A → ℕ)
@@ -15,9 +16,10 @@ pub record IsRun {A B : Type 0}
     (words : List (List ℕ)) (a a' : A) (b b' : B) (o : Outcome) : Type 0 where
   pub read : WasRead left reads read_faults a a' o.status
   pub report : IsReported euler (left a) o.status o.report
+  pub serial : IsSerial euler (left a) o.report
   pub written : WasWritten held writes write_faults b b' o.status o.report
   pub cause :
-      HasCause (words ≡ codes "--serial" ∷ []) (left a)
+      HasCause (AreReadable words) (left a)
       (read_faults a) (read_faults a') (write_faults b) (write_faults b') o.status
 
 -- The program ended with this number: it ran some words, or it could not have its words and did

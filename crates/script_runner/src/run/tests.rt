@@ -2,10 +2,12 @@ use super::*;
 use examples::EXAMPLES;
 use pk_base::NoMemory;
 use pk_outside::{MemSink, MemSource};
+use rows::ROWS;
 use std::process::Abort;
 use std::test::Fail;
 
 mod examples;
+mod rows;
 
 const FIRST: &[u8] =
     b"session 1 1\nthread\nlock 1\n1 mvfs 0 0 0\n1 mark\n1 mvfs 1 0 0\n1 goto 70\n1 goto 64\nend\n";
@@ -73,10 +75,10 @@ fn a_report_has_its_lists(rt: HostRuntime) -> Result<(), Fail> {
 
 #[test]
 fn runs_the_examples(rt: HostRuntime) -> Result<(), Fail> {
-    for (script, report, status) in EXAMPLES {
+    for (script, report, status) in EXAMPLES.iter().chain(ROWS.iter()) {
         assert_eq!(rt;
             status_of(&rt, rt.alloc(), script.as_bytes(), report.as_bytes())?,
-            status
+            *status
         );
     }
     Ok(())
@@ -157,50 +159,14 @@ fn a_bad_script_writes_nothing(rt: HostRuntime) -> Result<(), Fail> {
 }
 
 #[test]
-fn a_header_that_is_not_carried_out_yet_is_told_of_the_first_thread(
-    rt: HostRuntime,
-) -> Result<(), Fail> {
-    refuses(
-        &rt,
-        rt.alloc(),
-        &[
-            ("session 2 2\nthread\nlock 1\nend\n", 3, NOT_BUILT),
-            ("session 1 2\nthread\nlock 1\nend\n", 3, NOT_BUILT),
-            (
-                "session 1 1\nschedule 1\nthread\nlock 1\nend\n",
-                4,
-                NOT_BUILT,
-            ),
-            ("session 2 2\nthread\nlock 1\n1 marks\nend\n", 3, NOT_BUILT),
-            (
-                "session 2 2\n\n# one\nthread\n\nlock 1\nend\nthread\nend\n",
-                6,
-                NOT_BUILT,
-            ),
-        ],
-    )?;
-    Ok(())
-}
-
-#[test]
 fn a_line_that_is_not_carried_out_yet_writes_nothing(rt: HostRuntime) -> Result<(), Fail> {
     for (lines, line) in [
-        ("end\n", 3),
-        ("1 mark\nend\n", 3),
-        ("lock 2\nend\n", 3),
-        ("unlock 1\nend\n", 3),
-        ("lock 1\nlock 1\nend\n", 4),
-        ("lock 1\n1 mark\nunlock 1\nend\n", 5),
-        ("lock 1\n2 mark\nend\n", 4),
+        ("1 bodies\nend\n", 3),
         ("lock 1\n1 block 0 0 0 2 3 4\n1 mark\nend\n", 4),
-        ("lock 1\n1 mark\n1 unmark 65\nend\n", 5),
         ("lock 1\n1 mvfs 0 0 0\n1 set 65 colour 7\nend\n", 5),
-        ("lock 1\n1 marks\n1 delta 64\nend\n", 4),
-        ("lock 1\n1 mark\n1 mvfs 0 0 0 as b\nend\n", 5),
-        ("lock 1\n1 mvfs 0 0 0\n1 kvfs b\nend\n", 5),
-        ("lock 1\n1 mvfs 0 0 0\n1 kvfs b.1\nend\n", 5),
-        ("lock 1\nend\nthread\nlock 1\nend\n", 6),
-        ("lock 1\n1 marks\nend\nthread\nlock 1\nend\n", 4),
+        ("lock 1\n1 mvfs 0 0 0 as b\n1 mev b.3 1 0 0\nend\n", 5),
+        ("lock 1\nend\nthread\n1 ask 65\nend\n", 6),
+        ("2 kids 65\n1 ring 65\nend\nthread\n1 ask 65\nend\n", 3),
     ] {
         let input = format!(in rt.alloc(); "session 1 1\nthread\n{lines}")?;
         refuses(&rt, rt.alloc(), &[(input.as_str(), line, NOT_BUILT)])?;
@@ -209,18 +175,18 @@ fn a_line_that_is_not_carried_out_yet_writes_nothing(rt: HostRuntime) -> Result<
 }
 
 #[test]
-fn a_thirteenth_act_is_not_carried_out_yet(rt: HostRuntime) -> Result<(), Fail> {
-    let thirteen =
-        "session 1 1\nthread\nlock 1\n1 mark\n1 mark\n1 mark\n1 mark\n1 mark\n1 mark\n1 mark\n1 mark\n1 mark\n1 mark\n1 mark\n1 mark\n1 mark\nend\n";
-    refuses(&rt, rt.alloc(), &[(thirteen, 16, NOT_BUILT)])?;
-    Ok(())
-}
-
-#[test]
 fn other_words_read_and_write_nothing(rt: HostRuntime) -> Result<(), Fail> {
     let alloc = rt.alloc();
-    let none: &[&str] = &[];
-    for words in [none, &["--parallel"], &["--serial", "--serial"], &[""]] {
+    let lists: [&[&str]; 7] = [
+        &["--fast"],
+        &["--help"],
+        &["--made", "0"],
+        &["--made", "8001"],
+        &["--serial", "--serial"],
+        &["--serial", "x"],
+        &[""],
+    ];
+    for words in lists {
         let mut source = MemSource::new(alloc, FIRST, 4096, &[])?;
         let mut sink = MemSink::new(alloc, 4096, 4096, &[])?;
         let outcome = run_words(alloc, words, &mut source, &mut sink)?;
@@ -229,6 +195,17 @@ fn other_words_read_and_write_nothing(rt: HostRuntime) -> Result<(), Fail> {
         assert_eq!(rt; sink.as_slice(), b"".as_slice());
         assert_eq!(rt; run(alloc, &mut source, &mut sink)?.status, Status::Done);
     }
+    Ok(())
+}
+
+#[test]
+fn a_run_without_words_is_serial_too(rt: HostRuntime) -> Result<(), Fail> {
+    let alloc = rt.alloc();
+    let mut source = MemSource::new(alloc, FIRST, 4096, &[])?;
+    let mut sink = MemSink::new(alloc, 4096, 4096, &[])?;
+    let outcome = run_words(alloc, &[], &mut source, &mut sink)?;
+    assert_eq!(rt; outcome.status, Status::Done);
+    assert_eq!(rt; sink.as_slice(), FIRST_REPORT);
     Ok(())
 }
 

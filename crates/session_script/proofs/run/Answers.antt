@@ -15,6 +15,7 @@ returns-clause-run g c =
             record {
               read = ran.read;
               report = ran.report;
+              serial = ran.serial;
               written = ran.written;
               cause = rw (← w.as_slice.ensures.value) ran.cause;
             },

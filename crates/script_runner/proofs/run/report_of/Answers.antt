@@ -1,6 +1,5 @@
-use Rattle.std.proofs.Common.{sym, ◌∙◌}
-use Rattle.script_runner.proofs.Forms.{script_form}
+use Rattle.script_runner.proofs.WellFormed.{well_formed}
 use Rattle.script_runner.proofs.run.report_of.Goals as goal
 
-pub execute-requires : goal.execute-requires
-execute-requires c = script_form c.in_ok-script.script (sym c.unbuilt_in.ensures ∙ c.in_default.is)
+pub run_by_turns-requires-after_bounds : goal.run_by_turns-requires-after_bounds
+run_by_turns-requires-after_bounds c κs = well_formed c.args.bytes.now c.in_ok-script.script c.in_ok-script.ensures.script

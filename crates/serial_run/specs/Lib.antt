@@ -1,0 +1,8 @@
+-- In reading order.
+pub mod Serial
+pub mod WellFormed
+pub mod Reached
+pub mod Ends
+pub mod Held
+pub mod Names
+pub mod Orders
