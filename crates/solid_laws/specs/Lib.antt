@@ -6,3 +6,4 @@ pub mod WorkedBlocks
 pub mod WorkedPolygons
 pub mod BlockForm
 pub mod Unsound
+pub mod Today
