@@ -1,24 +1,20 @@
 -- What is shown of the items of one class, in a shape in which some items were made.
-use Rattle.std.proofs.Common.{◌≡◌, ◌≢◌, ℕ, ⊎_elim, true, false, cond, List, [], Option, Some, refl, sym, ap, subst, ◌∙◌}
+use Rattle.std.proofs.Common.{◌≡◌, ◌≢◌, ⊎_elim, true, false, List, Option, Some, refl, sym, ap, subst, ◌∙◌}
 use Rattle.std.specs.Prelude.{option_map}
 use Rattle.std.specs.List.{AllByRecursion}
 use Rattle.std.proofs.lemmas.Bool.{true≢false}
 use Rattle.pk_base.specs.declared.tag.Tag.{Tag}
 use Rattle.pk_base.specs.declared.entity.Point.{Point}
 use Rattle.pk_base.specs.declared.entity.Class.{Class}
-use Rattle.pk_base.specs.declared.entity.Class.TheVariants as class
 use Rattle.pk_model.proofs.TagLists.{ByRecursion-weaker}
 use Rattle.solid_model.specs.Items.{Item, Shape, item_at, class_of_item}
 use Rattle.solid_model.specs.Items.Item.{Body, Shell, Face, Loop, Fin, Edge, Vertex, Attr}
-use Rattle.solid_model.specs.Owners.{fins_of}
-use Rattle.solid_model.specs.Links.{is_fin_of}
-use Rattle.solid_model.specs.Sound.{class_at, is_alone_in}
-use Rattle.solid_sound.proofs.Lists.{times}
+use Rattle.solid_model.specs.Sound.{class_at}
 use Rattle.solid_sound.proofs.Lookups.{Items}
 use Rattle.solid_sound.proofs.Found.{same_or_other}
 use Rattle.solid_sound.proofs.Names.{NotAttr}
 use Rattle.solid_sound.proofs.Bodies.{item_of_class}
-use Rattle.solid_sound.proofs.Changed.{Changed, NoAttributes, changed-each}
+use Rattle.solid_sound.proofs.Changed.{Changed, changed-each}
 use Rattle.solid_sound.proofs.Corners.{IsFin}
 use Rattle.solid_sound.proofs.EdgeMade.{is_outside}
 
@@ -162,44 +158,3 @@ class-kept S R l face to fins now vertex after was is t stays c na h = ⊎_elim
     (λ (e : t ≡ l). ap (class_at R) e ∙ ap (option_map class_of_item) is ∙ sym (ap (option_map class_of_item) was) ∙ ap (class_at S) (sym e) ∙ h)
     (λ (other : t ≢ l). let x = item_of_class (item_at S t) c h in ap (option_map class_of_item) (stays x.0 x.1 (subst NotAttr (sym x.2) na) other) ∙ ap Some x.2)
     (same_or_other t l)
-
--- ---- attributes do not count
-
-fins_of_attribute : (x : Item) → class_of_item x ≡ class.Attr → fins_of x ≡ []
-fins_of_attribute (Attr owner name value) h = refl
-fins_of_attribute (Loop face fins vertex) h = absurd (cc)
-fins_of_attribute (Body shell) h = refl
-fins_of_attribute (Shell body q) h = refl
-fins_of_attribute (Face shell outer) h = refl
-fins_of_attribute (Fin mate edge vertex) h = refl
-fins_of_attribute (Edge body) h = refl
-fins_of_attribute (Vertex body point) h = refl
-
-edge_of_attribute : (t : Tag) (x : Item) → class_of_item x ≡ class.Attr → is_fin_of t x ≡ false
-edge_of_attribute t (Attr owner name value) h = refl
-edge_of_attribute t (Fin mate edge vertex) h = absurd (cc)
-edge_of_attribute t (Body shell) h = refl
-edge_of_attribute t (Shell body q) h = refl
-edge_of_attribute t (Face shell outer) h = refl
-edge_of_attribute t (Loop face fins vertex) h = refl
-edge_of_attribute t (Edge body) h = refl
-edge_of_attribute t (Vertex body point) h = refl
-
-lone_of_attribute : (t : Tag) (x : Item) → class_of_item x ≡ class.Attr → is_alone_in t x ≡ false
-lone_of_attribute t (Attr owner name value) h = refl
-lone_of_attribute t (Loop face fins vertex) h = absurd (cc)
-lone_of_attribute t (Body shell) h = refl
-lone_of_attribute t (Shell body q) h = refl
-lone_of_attribute t (Face shell outer) h = refl
-lone_of_attribute t (Fin mate edge vertex) h = refl
-lone_of_attribute t (Edge body) h = refl
-lone_of_attribute t (Vertex body point) h = refl
-
-pub count-times : (t : Tag) → NoAttributes (λ x. times t (fins_of x.1))
-count-times t u x h = ap (times t) (fins_of_attribute x h)
-
-pub count-edges : (t : Tag) → NoAttributes (λ x. cond (is_fin_of t x.1) 1 0)
-count-edges t u x h = ap (λ c. cond {A = ℕ} c 1 0) (edge_of_attribute t x h)
-
-pub count-lone : (t : Tag) → NoAttributes (λ x. cond (is_alone_in t x.1) 1 0)
-count-lone t u x h = ap (λ c. cond {A = ℕ} c 1 0) (lone_of_attribute t x h)

@@ -30,9 +30,8 @@ use Rattle.solid_sound.proofs.Lists.{contains_first, contains_cases, same_itself
 use Rattle.solid_sound.proofs.Turned.{turned-least}
 use Rattle.solid_sound.proofs.Cycles.{least, least-first, written-itself}
 use Rattle.solid_sound.proofs.Lookups.{Items, with-other, with-written}
-use Rattle.solid_sound.proofs.Reading.{not_before, fins-once, loop-of_fin}
+use Rattle.solid_sound.proofs.Reading.{not_before, vertex_of_class, fins-once, loop-of_fin}
 use Rattle.solid_sound.proofs.RowKeeps.{IsWell}
-use Rattle.solid_sound.proofs.Ends.{vertex_of_class}
 use Rattle.solid_sound.proofs.Asked.{free_at, ordered_at, apart_at}
 use Rattle.solid_sound.proofs.Progress.{in_drop, start, Began, left-ascend, left-free, left-enough, began-mev}
 

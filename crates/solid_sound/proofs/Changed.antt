@@ -5,7 +5,7 @@ use Rattle.std.specs.Option.{option_map_or}
 use Rattle.std.specs.List.{AllByRecursion, sum_by}
 use Rattle.std.specs.FinMap.{is_sorted, put}
 use Rattle.std.specs.FinMap.Entries.{is_sorted-put}
-use Rattle.std.proofs.lemmas.Bool.{true≢false, cases_Bool, or_parts, or_from}
+use Rattle.std.proofs.lemmas.Bool.{true≢false, cases_Bool}
 use Rattle.std.proofs.lemmas.List.Sums.{sum_by-cons}
 use Rattle.std.proofs.lemmas.Option.{same_Some}
 use Rattle.pk_base.specs.Entity.{same_tag}
@@ -16,24 +16,21 @@ use Rattle.pk_base.specs.declared.entity.Class.TheVariants as class
 use Rattle.pk_model.specs.Maps.{tag_cmp}
 use Rattle.pk_model.proofs.TagLists.{tag_total, ByRecursion-at, contains_only}
 use Rattle.solid_model.specs.Items.{Item, Shape, item_at, class_of_item}
-use Rattle.solid_model.specs.Items.Item.{Body, Shell, Face, Loop, Fin, Edge, Vertex, Attr}
+use Rattle.solid_model.specs.Items.Item.{Attr}
 use Rattle.solid_model.specs.Rings.{is_among}
 use Rattle.solid_model.specs.Owners.{same_class, body_of, number_in_body}
 use Rattle.solid_model.specs.Deaths.{is_attribute_of, dies_with, ◌without◌}
-use Rattle.solid_sound.proofs.Lists.{contains_first, contains_later, contains_cases, is_among-in, not_among, same_itself, not_same, among-map}
+use Rattle.solid_sound.proofs.Lists.{contains_first, contains_later, contains_cases, is_among-in, not_among, same_itself, not_same, among-map, neither_parts, neither_from}
 use Rattle.solid_sound.proofs.Lookups.{Items, tags_in, put-same, put-other, filter-was, filter-kept, filter-sorted}
 use Rattle.solid_sound.proofs.Found.{same_or_other}
 use Rattle.solid_sound.proofs.Names.{NotAttr}
 use Rattle.solid_sound.proofs.Numbers.{counts_in, number-attribute}
+use Rattle.solid_sound.proofs.Attributes.{CountsNoAttribute, attribute_of-class, no_attribute_of}
 use Rattle.solid_sound.proofs.Sums.{Weight, weight_at, Adds, sum-alike, sum-put, sum-filter, sum-but}
 
 -- it is none of these tags
 abbrev pub NoneOf : Tag → List Tag → Type 0
 NoneOf t us = AllByRecursion (λ u. t ≢ u) us
-
--- attributes count nothing
-abbrev pub NoAttributes : Weight → Type 0
-NoAttributes w = (t : Tag) (x : Item) → class_of_item x ≡ class.Attr → w (t, x) ≡ 0
 
 -- R is S with the items that were made in place of those that are gone, but maybe for attributes.
 pub record Changed (S R : Shape) (gone made : Items) : Type 0 where
@@ -41,7 +38,7 @@ pub record Changed (S R : Shape) (gone made : Items) : Type 0 where
   pub stays : (t : Tag) (x : Item) → item_at S t ≡ Some x → NotAttr (class_of_item x) → NoneOf t (tags_in gone) → item_at R t ≡ Some x
   pub news : (t : Tag) (x : Item) → Contains made (t, x) → item_at R t ≡ Some x
   pub was : (t : Tag) (x : Item) → item_at R t ≡ Some x → Contains made (t, x) ⊎ ((item_at S t ≡ Some x) × NoneOf t (tags_in gone))
-  pub sums : (w : Weight) → NoAttributes w → sum_by w R + sum_by w gone ≡ sum_by w made + sum_by w S
+  pub sums : (w : Weight) → CountsNoAttribute w → sum_by w R + sum_by w gone ≡ sum_by w made + sum_by w S
 
 -- ---- new items, and one that is rewritten
 
@@ -78,23 +75,6 @@ module _ (S A : Shape) (xs : Items) (l : Tag) (old new : Item) (added : Adds S A
 
 -- ---- a loop that is killed
 
-attribute_class : (killed : List Tag) (x : Item) → is_attribute_of killed x ≡ true → class_of_item x ≡ class.Attr
-attribute_class killed (Attr owner name value) h = refl
-attribute_class killed (Body shell) h = absurd (cc)
-attribute_class killed (Shell body q) h = absurd (cc)
-attribute_class killed (Face shell outer) h = absurd (cc)
-attribute_class killed (Loop face fins vertex) h = absurd (cc)
-attribute_class killed (Fin mate edge vertex) h = absurd (cc)
-attribute_class killed (Edge body) h = absurd (cc)
-attribute_class killed (Vertex body point) h = absurd (cc)
-
-pub no_attribute_of : (killed : List Tag) (x : Item) → NotAttr (class_of_item x) → is_attribute_of killed x ≡ false
-no_attribute_of killed x na = ⊎_elim (λ (l : is_attribute_of killed x ≡ true). absurd (na (attribute_class killed x l))) (λ r. r) (cases_Bool (is_attribute_of killed x))
-
-not_true : (b : Bool) → not b ≡ true → b ≡ false
-not_true true h = absurd (cc)
-not_true false h = refl
-
 module _ (S A : Shape) (gone made : Items) (r : Tag) (old : Item) (change : Changed S A gone made)
     (r_is : item_at S r ≡ Some old) (na : NotAttr (class_of_item old)) (other : NoneOf r (tags_in gone)) (apart : NoneOf r (tags_in made))
     (plain : AllByRecursion (λ (y : Tag × Item). NotAttr (class_of_item y.1)) made) where
@@ -102,12 +82,12 @@ module _ (S A : Shape) (gone made : Items) (r : Tag) (old : Item) (change : Chan
   lives x = not (dies_with (r ∷ []) x)
 
   dies-not : (t : Tag) (x : Item) → t ≢ r → is_attribute_of (r ∷ []) x ≡ false → lives (t, x) ≡ true
-  dies-not t x n a = ap not (or_from (is_among t (r ∷ [])) (is_attribute_of (r ∷ []) x) (not_among t (r ∷ []) (λ k. n (sym (contains_only r t k)))) a)
+  dies-not t x n a = neither_from (is_among t (r ∷ [])) (is_attribute_of (r ∷ []) x) (not_among t (r ∷ []) (λ k. n (sym (contains_only r t k)))) a
 
   alive : (t : Tag) (x : Item) → item_at (A without r ∷ []) t ≡ Some x → (item_at A t ≡ Some x) × (t ≢ r) × (is_attribute_of (r ∷ []) x ≡ false)
   alive t x e =
       let left = filter-was lives A change.ascends t x e in
-      let both = or_parts (is_among t (r ∷ [])) (is_attribute_of (r ∷ []) x) (not_true (dies_with (r ∷ []) (t, x)) left.1) in
+      let both = neither_parts (is_among t (r ∷ [])) (is_attribute_of (r ∷ []) x) left.1 in
       (left.0, (λ k. true≢false (sym (is_among-in t (r ∷ []) (subst (λ u. Contains (r ∷ []) u) (sym k) (contains_first r []))) ∙ both.0)), both.1)
 
   -- no attribute that is left has the dead loop as its owner
@@ -141,7 +121,7 @@ module _ (S A : Shape) (gone made : Items) (r : Tag) (old : Item) (change : Chan
         ∙ sym (ap (λ c. cond c 0 (w (t, x))) (ap (λ u. same_tag u r) k ∙ same_itself r)))
         (λ (k : t ≢ r). ⊎_elim {C = cond (lives (t, x)) (w (t, x)) 0 ≡ cond (same_tag t r) 0 (w (t, x))}
         (λ (dead : is_attribute_of (r ∷ []) x ≡ true).
-        let zero : w (t, x) ≡ 0 = none t x (attribute_class (r ∷ []) x dead) in
+        let zero : w (t, x) ≡ 0 = none t x (attribute_of-class (r ∷ []) x dead) in
         ap (λ n. cond (lives (t, x)) n 0) zero ∙ both_zero (lives (t, x)) (same_tag t r) ∙ sym (ap (λ n. cond (same_tag t r) 0 n) zero))
         (λ (kept : is_attribute_of (r ∷ []) x ≡ false).
         ap (λ c. cond c (w (t, x)) 0) (dies-not t x k kept) ∙ sym (ap (λ c. cond c 0 (w (t, x))) (not_same t r k)))

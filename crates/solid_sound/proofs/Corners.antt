@@ -1,5 +1,5 @@
 -- The corners at a vertex, as the fins go round it, where a fin comes to stand before one of them.
-use Rattle.std.proofs.Common.{◌≡◌, ◌≢◌, ◌⊎◌, inl, inr, ⊎_elim, false, List, [], ◌∷◌, Option, Some, None, refl, sym, ap, subst, ◌∙◌}
+use Rattle.std.proofs.Common.{◌≡◌, ◌≢◌, ◌⊎◌, inl, inr, ⊎_elim, false, List, [], ◌∷◌, drop, Option, Some, None, refl, sym, ap, subst, ◌∙◌}
 use Rattle.std.specs.Prelude.{unwrap_or, Contains}
 use Rattle.std.specs.Option.{option_map_or}
 use Rattle.std.specs.List.{AllByRecursion}
@@ -14,7 +14,8 @@ use Rattle.solid_model.specs.Rings.{written_from, neighbours, neighbours_from}
 use Rattle.solid_model.specs.Places.{mate_of, mate_at, vertex_of, start_at}
 use Rattle.solid_model.specs.Sound.{ComesAfter, GoesRound, end_of, is_empty}
 use Rattle.solid_sound.proofs.Lists.{contains_first, contains_later, contains_cases, not_in_nil, neighbours-in}
-use Rattle.solid_sound.proofs.Turned.{chain_end, turned-written, turned-in, turned-back, turned-once, turned-all, written-first}
+use Rattle.solid_sound.proofs.Cycles.{written-first}
+use Rattle.solid_sound.proofs.Turned.{chain_end, turned-written, turned-in, turned-back, turned-once, turned-all}
 use Rattle.solid_sound.proofs.Reading.{fin_in, loop-of_fin}
 use Rattle.solid_sound.proofs.Found.{same_or_other}
 use Rattle.solid_sound.proofs.RowKeeps.{IsWell}
@@ -130,17 +131,18 @@ module _ (S R : Shape) (w n m e : Tag) (k : Option Tag) (stays : (f mate edge : 
   beside : (c : Tag) → k ≡ Some c → CornerAt S w (Some c) → ComesAfter R m c → Round S w → Filled
   beside c is corner_is next h =
       let among : Contains h.fins c = h.all c corner_is.0 corner_is.1 corner_is.2 in
-      let first = written-first c h.fins among in
+      let rest = drop 1 (written_from c h.fins) in
+      let first : written_from c h.fins ≡ c ∷ rest = written-first c h.fins among in
       let turned = turned-written c h.fins in
-      let once : NoRepeats (c ∷ first.0) = subst NoRepeats first.1 (turned-once h.fins (written_from c h.fins) turned h.once) in
-      let in_S : (f : Tag) → Contains (c ∷ first.0) f → Contains h.fins f = λ f j. turned-in (written_from c h.fins) h.fins (turned-back h.fins (written_from c h.fins) turned) f (subst (λ ts. Contains ts f) (sym first.1) j) in
-      let in_new : (f : Tag) → Contains h.fins f → Contains (c ∷ first.0) f = λ f j. subst (λ ts. Contains ts f) first.1 (turned-in h.fins (written_from c h.fins) turned f j) in
-      let round : AllByRecursion (λ x. ComesAfter S (mate_at S x.0) x.1) (neighbours_from c c first.0) =
-      subst (λ ts. AllByRecursion (λ x. ComesAfter S (mate_at S x.0) x.1) (neighbours ts)) first.1 (turned-all (λ x. ComesAfter S (mate_at S x.0) x.1) h.fins (written_from c h.fins) turned h.round) in
+      let once : NoRepeats (c ∷ rest) = subst NoRepeats first (turned-once h.fins (written_from c h.fins) turned h.once) in
+      let in_S : (f : Tag) → Contains (c ∷ rest) f → Contains h.fins f = λ f j. turned-in (written_from c h.fins) h.fins (turned-back h.fins (written_from c h.fins) turned) f (subst (λ ts. Contains ts f) (sym first) j) in
+      let in_new : (f : Tag) → Contains h.fins f → Contains (c ∷ rest) f = λ f j. subst (λ ts. Contains ts f) first (turned-in h.fins (written_from c h.fins) turned f j) in
+      let round : AllByRecursion (λ x. ComesAfter S (mate_at S x.0) x.1) (neighbours_from c c rest) =
+      subst (λ ts. AllByRecursion (λ x. ComesAfter S (mate_at S x.0) x.1) (neighbours ts)) first (turned-all (λ x. ComesAfter S (mate_at S x.0) x.1) h.fins (written_from c h.fins) turned h.round) in
       let new : Round R w = record {
-        fins = n ∷ c ∷ first.0;
+        fins = n ∷ c ∷ rest;
         once = (
-          ByRecursion-contains (λ t. n ≢ t) (c ∷ first.0) (λ t j same.
+          ByRecursion-contains (λ t. n ≢ t) (c ∷ rest) (λ t j same.
               let f = h.fin t (in_S t j) in
               let both : None ≡ Some (Fin f.0 f.1 w) = sym free ∙ ap (item_at S) same ∙ f.2 in
               cc),
@@ -148,27 +150,27 @@ module _ (S R : Shape) (w n m e : Tag) (k : Option Tag) (stays : (f mate edge : 
         );
         fin = λ f j. ⊎_elim {C = (mate : Tag) × (edge : Tag) × IsFin R f mate edge w}
             (λ (l : n ≡ f). (m, e, subst (λ t. IsFin R t m e w) l n_is))
-            (λ (l : Contains (c ∷ first.0) f). let x = h.fin f (in_S f l) in (x.0, x.1, stays f x.0 x.1 x.2))
-            (contains_cases n (c ∷ first.0) f j);
+            (λ (l : Contains (c ∷ rest) f). let x = h.fin f (in_S f l) in (x.0, x.1, stays f x.0 x.1 x.2))
+            (contains_cases n (c ∷ rest) f j);
         all = λ f mate edge f_is. ⊎_elim
-            (λ (l : f ≡ n). subst (Contains (n ∷ c ∷ first.0)) (sym l) (contains_first n (c ∷ first.0)))
-            (λ (l : IsFin S f mate edge w). contains_later n (c ∷ first.0) f (in_new f (h.all f mate edge l)))
+            (λ (l : f ≡ n). subst (Contains (n ∷ c ∷ rest)) (sym l) (contains_first n (c ∷ rest)))
+            (λ (l : IsFin S f mate edge w). contains_later n (c ∷ rest) f (in_new f (h.all f mate edge l)))
             (was f mate edge f_is);
         round = (
           subst (λ t. ComesAfter R t c) (sym n_mate) next,
-          ByRecursion-contains (λ x. ComesAfter R (mate_at R x.0) x.1) (neighbours_from n c first.0) (λ x j.
-              let starts : (q : Tag) → Contains {X = Tag × Tag} (neighbours_from c c first.0) (x.0, q) → mate_at R x.0 ≡ mate_at S x.0 =
-              λ q i. let f = h.fin x.0 (in_S x.0 (neighbours-in (c ∷ first.0) (x.0, q) i).0) in mate_stays x.0 f.0 f.1 f.2 in
+          ByRecursion-contains (λ x. ComesAfter R (mate_at R x.0) x.1) (neighbours_from n c rest) (λ x j.
+              let starts : (q : Tag) → Contains {X = Tag × Tag} (neighbours_from c c rest) (x.0, q) → mate_at R x.0 ≡ mate_at S x.0 =
+              λ q i. let f = h.fin x.0 (in_S x.0 (neighbours-in (c ∷ rest) (x.0, q) i).0) in mate_stays x.0 f.0 f.1 f.2 in
               ⊎_elim {C = ComesAfter R (mate_at R x.0) x.1}
-              (λ (l : (x.1 ≡ n) × Contains {X = Tag × Tag} (neighbours_from c c first.0) (x.0, c)).
+              (λ (l : (x.1 ≡ n) × Contains {X = Tag × Tag} (neighbours_from c c rest) (x.0, c)).
               subst (λ t. ComesAfter R t x.1) (sym (starts c l.1))
-              (subst (ComesAfter R (mate_at S x.0)) (sym l.0) (before (mate_at S x.0) c (ByRecursion-at (λ y. ComesAfter S (mate_at S y.0) y.1) (neighbours_from c c first.0) (x.0, c) round l.1) is)))
-              (λ (l : Contains first.0 x.1 × Contains {X = Tag × Tag} (neighbours_from c c first.0) (x.0, x.1)).
-              let f = h.fin x.1 (in_S x.1 (contains_later c first.0 x.1 l.0)) in
+              (subst (ComesAfter R (mate_at S x.0)) (sym l.0) (before (mate_at S x.0) c (ByRecursion-at (λ y. ComesAfter S (mate_at S y.0) y.1) (neighbours_from c c rest) (x.0, c) round l.1) is)))
+              (λ (l : Contains rest x.1 × Contains {X = Tag × Tag} (neighbours_from c c rest) (x.0, x.1)).
+              let f = h.fin x.1 (in_S x.1 (contains_later c rest x.1 l.0)) in
               subst (λ t. ComesAfter R t x.1) (sym (starts x.1 l.1))
-              (comes (mate_at S x.0) x.1 f.0 f.1 (ByRecursion-at (λ y. ComesAfter S (mate_at S y.0) y.1) (neighbours_from c c first.0) (x.0, x.1) round l.1) f.2
-              (λ same. ByRecursion-at (λ t. c ≢ t) first.0 x.1 once.0 l.0 (same_Some c x.1 (sym is ∙ same)))))
-              (chain_end n c c first.0 x.0 x.1 j)),
+              (comes (mate_at S x.0) x.1 f.0 f.1 (ByRecursion-at (λ y. ComesAfter S (mate_at S y.0) y.1) (neighbours_from c c rest) (x.0, x.1) round l.1) f.2
+              (λ same. ByRecursion-at (λ t. c ≢ t) rest x.1 once.0 l.0 (same_Some c x.1 (sym is ∙ same)))))
+              (chain_end n c c rest x.0 x.1 j)),
         );
       } in
       (new, refl)

@@ -317,8 +317,8 @@ pub record CutAt (n m : Tag) (rest : List Tag) : Type 0 where
   pub before_is : before m (n ∷ rest) ≡ n ∷ ahead
   pub from_is : from m (n ∷ rest) ≡ m ∷ behind
 
-pub cut-at : (n m : Tag) (rest : List Tag) → m ≢ n → Contains (n ∷ rest) m → NoRepeats (n ∷ rest) → CutAt n m rest
-cut-at n m rest other k once =
+pub cut-at : (n m : Tag) (rest : List Tag) → m ≢ n → Contains (n ∷ rest) m → CutAt n m rest
+cut-at n m rest other k =
     let later : Contains rest m = ⊎_elim (λ (e : n ≡ m). absurd (other (sym e))) (λ (r : Contains rest m). r) (contains_cases n rest m k) in
     let p = parts m rest later in
     let differs : same_tag n m ≡ false = not_same n m (λ e. other (sym e)) in

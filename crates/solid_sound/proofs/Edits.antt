@@ -12,27 +12,20 @@ use Rattle.pk_base.specs.Entity.{same_tag}
 use Rattle.pk_base.specs.declared.tag.Tag.{Tag}
 use Rattle.pk_base.specs.declared.entity.Name.{Name}
 use Rattle.pk_base.specs.declared.entity.Class.{Class}
-use Rattle.pk_base.specs.declared.entity.Class.TheVariants as class
 use Rattle.pk_model.specs.Apart.{NoRepeats}
 use Rattle.pk_model.specs.Maps.{tag_cmp}
 use Rattle.pk_model.proofs.TagLists.{tag_total, ByRecursion-at, ByRecursion-contains}
 use Rattle.solid_model.specs.Items.{Item, Shape, item_at, class_of_item, ◌with◌}
-use Rattle.solid_model.specs.Items.Item.{Body, Shell, Face, Loop, Fin, Edge, Vertex, Attr}
+use Rattle.solid_model.specs.Items.Item.{Attr}
 use Rattle.solid_model.specs.Rings.{is_among}
-use Rattle.solid_model.specs.Owners.{fins_of, same_class}
-use Rattle.solid_model.specs.Links.{is_fin_of}
-use Rattle.solid_model.specs.Sound.{HasAttributes, class_at, is_alone_in}
+use Rattle.solid_model.specs.Sound.{HasAttributes, class_at}
 use Rattle.solid_model.specs.Deaths.{is_attribute_of, dies_with, ◌without◌}
-use Rattle.solid_sound.proofs.Lists.{same_itself, same_means, not_same, is_among-in, not_among, times, among-map}
+use Rattle.solid_sound.proofs.Lists.{same_itself, same_means, not_same, is_among-in, not_among, among-map, neither_parts, neither_from}
 use Rattle.solid_sound.proofs.Lookups.{Items, tags_in, put-other, with-sorted, with-other, with-written, is_written, filter-was, filter-kept, filter-sorted}
 use Rattle.solid_sound.proofs.Names.{NotAttr}
 use Rattle.solid_sound.proofs.Bodies.{item_of_class}
-use Rattle.solid_sound.proofs.Numbers.{number-attribute, counts_in}
+use Rattle.solid_sound.proofs.Attributes.{CountsNoAttribute, attribute_of-class, no_attribute_of}
 use Rattle.solid_sound.proofs.Sums.{Weight, weight_at, sum-alike, sum-put, sum-filter, sum-but}
-
--- an attribute counts nothing
-abbrev pub CountsNoAttribute : Weight → Type 0
-CountsNoAttribute w = (t : Tag) (x : Item) → class_of_item x ≡ class.Attr → w (t, x) ≡ 0
 
 -- R is S with these items, and then without what stands under the killed tags and the attributes of
 -- that
@@ -103,27 +96,6 @@ sum-but_all w S (t ∷ ts) sorted once =
 
 -- ---- killed
 
-pub attribute_of-class : (killed : List Tag) (x : Item) → is_attribute_of killed x ≡ true → class_of_item x ≡ class.Attr
-attribute_of-class killed (Attr owner name value) h = refl
-attribute_of-class killed (Body shell) h = absurd (cc)
-attribute_of-class killed (Shell body q) h = absurd (cc)
-attribute_of-class killed (Face shell outer) h = absurd (cc)
-attribute_of-class killed (Loop face fins vertex) h = absurd (cc)
-attribute_of-class killed (Fin mate edge vertex) h = absurd (cc)
-attribute_of-class killed (Edge body) h = absurd (cc)
-attribute_of-class killed (Vertex body point) h = absurd (cc)
-
-pub no_attribute_of : (killed : List Tag) (x : Item) → NotAttr (class_of_item x) → is_attribute_of killed x ≡ false
-no_attribute_of killed x na = ⊎_elim (λ (l : is_attribute_of killed x ≡ true). absurd (na (attribute_of-class killed x l))) (λ r. r) (cases_Bool (is_attribute_of killed x))
-
-lives_on : (a b : Bool) → a ≡ false → b ≡ false → not (a || b) ≡ true
-lives_on a b h k = λ i. not (h i || k i)
-
-lived : (a b : Bool) → not (a || b) ≡ true → (a ≡ false) × (b ≡ false)
-lived true b h = absurd (cc)
-lived false true h = absurd (cc)
-lived false false h = (refl, refl)
-
 none_is : (t : Tag) (ts : List Tag) → is_among t ts ≡ false → AllByRecursion (λ u. t ≢ u) ts
 none_is t ts h = ByRecursion-contains (λ u. t ≢ u) ts (λ u k e. true≢false (sym (is_among-in t ts (subst (Contains ts) (sym e) k)) ∙ h))
 
@@ -162,10 +134,10 @@ edits S xs killed sorted once_new once apart plain =
     record {
       ascends = filter-sorted lives A A_sorted;
       news = λ t x k. filter-kept lives A t x (with-written S xs t x once_new k)
-          (lives_on (is_among t killed) (is_attribute_of killed x)
+          (neither_from (is_among t killed) (is_attribute_of killed x)
           (not_among t killed (λ m. ByRecursion-at (λ u. t ≢ u) (tags_in xs) t (ByRecursion-at (λ z. AllByRecursion (λ u. z ≢ u) (tags_in xs)) killed t apart m) (among-map (λ (z : Tag × Item). z.0) xs (t, x) k) refl))
           (no_attribute_of killed x (ByRecursion-at (λ (z : Tag × Item). NotAttr (class_of_item z.1)) xs (t, x) plain k)));
-      stays = λ t x e na old live. filter-kept lives A t x (with-other S xs t old ∙ e) (lives_on (is_among t killed) (is_attribute_of killed x) (is_none t killed live) (no_attribute_of killed x na));
+      stays = λ t x e na old live. filter-kept lives A t x (with-other S xs t old ∙ e) (neither_from (is_among t killed) (is_attribute_of killed x) (is_none t killed live) (no_attribute_of killed x na));
       was = λ t x e.
           let left = filter-was lives A A_sorted t x e in
           ⊎_elim {C = Contains xs (t, x) ⊎ ((item_at S t ≡ Some x) × AllByRecursion (λ u. t ≢ u) (tags_in xs))}
@@ -175,8 +147,8 @@ edits S xs killed sorted once_new once apart plain =
           inl (subst (λ y. Contains xs (t, y)) is l.1))
           (λ (r : AllByRecursion (λ u. t ≢ u) (tags_in xs)). inr (sym (with-other S xs t r) ∙ left.0, r))
           (is_written t xs);
-      alive = λ t x e. none_is t killed (lived (is_among t killed) (is_attribute_of killed x) (filter-was lives A A_sorted t x e).1).0;
-      owner = λ a o n v e. none_is o killed (lived (is_among a killed) (is_among o killed) (filter-was lives A A_sorted a (Attr o n v) e).1).1;
+      alive = λ t x e. none_is t killed (neither_parts (is_among t killed) (is_attribute_of killed x) (filter-was lives A A_sorted t x e).1).0;
+      owner = λ a o n v e. none_is o killed (neither_parts (is_among a killed) (is_among o killed) (filter-was lives A A_sorted a (Attr o n v) e).1).1;
       sums = λ w zero.
           let more = sum-with w S xs sorted once_new in
           let less = sum-without w A killed A_sorted once zero in
@@ -223,38 +195,3 @@ module _ (S R : Shape) (xs : Items) (killed : List Tag) (ed : Edits S R xs kille
         (k.0, edits-class keeps o k.0 k.2 (ed.owner a o n v h) k.1, k.2);
     one = λ a b o n v w h k. was.one a b o n v w (attribute_was a o n v h) (attribute_was b o n w k);
   }
-
--- ---- attributes count nothing
-
-pub fins-no_attribute : (f : Tag) → CountsNoAttribute (λ x. times f (fins_of x.1))
-fins-no_attribute f t (Attr owner name value) h = refl
-fins-no_attribute f t (Loop face fins vertex) h = absurd (cc)
-fins-no_attribute f t (Body shell) h = refl
-fins-no_attribute f t (Shell body q) h = refl
-fins-no_attribute f t (Face shell outer) h = refl
-fins-no_attribute f t (Fin mate edge vertex) h = refl
-fins-no_attribute f t (Edge body) h = refl
-fins-no_attribute f t (Vertex body point) h = refl
-
-pub edges-no_attribute : (e : Tag) → CountsNoAttribute (λ x. cond (is_fin_of e x.1) 1 0)
-edges-no_attribute e t (Fin mate edge vertex) h = absurd (cc)
-edges-no_attribute e t (Attr owner name value) h = refl
-edges-no_attribute e t (Loop face fins vertex) h = refl
-edges-no_attribute e t (Body shell) h = refl
-edges-no_attribute e t (Shell body q) h = refl
-edges-no_attribute e t (Face shell outer) h = refl
-edges-no_attribute e t (Edge body) h = refl
-edges-no_attribute e t (Vertex body point) h = refl
-
-pub lone-no_attribute : (v : Tag) → CountsNoAttribute (λ x. cond (is_alone_in v x.1) 1 0)
-lone-no_attribute v t (Loop face fins vertex) h = absurd (cc)
-lone-no_attribute v t (Attr owner name value) h = refl
-lone-no_attribute v t (Fin mate edge vertex) h = refl
-lone-no_attribute v t (Body shell) h = refl
-lone-no_attribute v t (Shell body q) h = refl
-lone-no_attribute v t (Face shell outer) h = refl
-lone-no_attribute v t (Edge body) h = refl
-lone-no_attribute v t (Vertex body point) h = refl
-
-pub numbers-no_attribute : (c : Class) → same_class class.Attr c ≡ false → (d : Tag) (g : Tag → Tag) → CountsNoAttribute (λ x. counts_in c d (g x.0) x.1)
-numbers-no_attribute c na d g t x h = number-attribute c na (same_tag (g t) d) x h

@@ -1,26 +1,25 @@
 -- The ends of a new edge, and the ring in which it joins them.
-use Rattle.std.proofs.Common.{◌≡◌, ◌≢◌, ℕ, ◌+◌, ◌≤◌, ◌⊎◌, inl, inr, ⊎_elim, Bool, true, false, cond, List, [], ◌∷◌, ◌++◌, Option, Some, None, Ok, refl, sym, ap, subst, ◌∙◌, arith}
-use Rattle.std.specs.Prelude.{option_map, is_some, unwrap_or, Contains}
+use Rattle.std.proofs.Common.{◌≡◌, ◌≢◌, ℕ, ◌+◌, ◌≤◌, ◌⊎◌, inl, inr, ⊎_elim, Bool, true, false, cond, List, [], ◌∷◌, ◌++◌, drop, Option, Some, None, Ok, refl, sym, ap, subst, ◌∙◌, arith}
+use Rattle.std.specs.Prelude.{is_some, unwrap_or, Contains}
 use Rattle.std.specs.Option.{option_and_then, option_map_or}
 use Rattle.std.specs.List.{AllByRecursion}
-use Rattle.std.proofs.lemmas.List.Elements.{Contains-append_left, Contains-append_right}
 use Rattle.std.proofs.lemmas.Option.{same_Some}
 use Rattle.pk_base.specs.Blocks.{tag}
 use Rattle.pk_base.specs.Entity.{same_tag}
 use Rattle.pk_base.specs.declared.tag.Tag.{Tag}
-use Rattle.pk_base.specs.declared.entity.Point.{Point}
 use Rattle.pk_base.specs.declared.entity.Class.TheVariants as class
 use Rattle.pk_model.specs.Apart.{NoRepeats}
 use Rattle.pk_model.proofs.TagLists.{ByRecursion-at, ByRecursion-append}
-use Rattle.solid_model.specs.Items.{Item, Shape, item_at, class_of_item}
+use Rattle.solid_model.specs.Items.{Item, Shape, item_at}
 use Rattle.solid_model.specs.Items.Item.{Body, Shell, Face, Loop, Fin, Edge, Vertex, Attr}
 use Rattle.solid_model.specs.Rings.{first_tag, written_from, neighbours, neighbours_from}
 use Rattle.solid_model.specs.Owners.{fins_of, owner_of_item, owner_in, body_of}
 use Rattle.solid_model.specs.Places.{asked, fins_at, End, end_in, end_of_item, PlacedFin, placed_fin, as_fin}
 use Rattle.solid_model.specs.Sound.{class_at, is_empty, is_alone_in, loops_alone_at}
 use Rattle.solid_sound.proofs.Lists.{one_if, same_itself, times, times-cons, times-append, contains_first, contains_later, not_in_nil, neighbours_from-append}
-use Rattle.solid_sound.proofs.Turned.{Turned, chain_end, all_to_end, turned-written, written-first}
-use Rattle.solid_sound.proofs.Reading.{found-le, loop-of_fin}
+use Rattle.solid_sound.proofs.Cycles.{written-first, merge-first, merge-second}
+use Rattle.solid_sound.proofs.Turned.{Turned, chain_end, all_to_end, turned-written}
+use Rattle.solid_sound.proofs.Reading.{vertex_of_class, found-le, loop-of_fin}
 use Rattle.solid_sound.proofs.Corners.{IsFin, CornerAt, Round, round-of}
 use Rattle.solid_sound.proofs.Bodies.{leads_up, loop_with-some, loop_with-found, body_of-live}
 use Rattle.solid_sound.proofs.RowKeeps.{IsWell}
@@ -55,32 +54,26 @@ module _ (n m : Tag) (ts us : List Tag) where
   joined-is : neighbours joined ≡ neighbours_from m n ts ++ neighbours_from n m us
   joined-is = neighbours_from-append n n ts m us
 
-  left : (x : Tag × Tag) → Contains (neighbours_from m n ts) x → Contains (neighbours joined) x
-  left x k = subst (λ ns. Contains ns x) (sym joined-is) (Contains-append_left (neighbours_from m n ts) (neighbours_from n m us) x k)
-
-  right : (x : Tag × Tag) → Contains (neighbours_from n m us) x → Contains (neighbours joined) x
-  right x k = subst (λ ns. Contains ns x) (sym joined-is) (Contains-append_right (neighbours_from m n ts) (neighbours_from n m us) x k)
-
   pub joined-after_n : Contains {X = Tag × Tag} (neighbours joined) (n, unwrap_or (first_tag ts) m)
-  joined-after_n = left (n, unwrap_or (first_tag ts) m) (half-first m n ts)
+  joined-after_n = merge-first n ts m us (n, unwrap_or (first_tag ts) m) (half-first m n ts)
 
   pub joined-after_m : Contains {X = Tag × Tag} (neighbours joined) (m, unwrap_or (first_tag us) n)
-  joined-after_m = right (m, unwrap_or (first_tag us) n) (half-first n m us)
+  joined-after_m = merge-second n ts m us (m, unwrap_or (first_tag us) n) (half-first n m us)
 
   pub joined-first : NoRepeats ts → (p q : Tag) → Contains {X = Tag × Tag} (neighbours ts) (p, q)
       → ((first_tag ts ≡ Some q) × Contains {X = Tag × Tag} (neighbours joined) (p, m)) ⊎ ((first_tag ts ≢ Some q) × Contains {X = Tag × Tag} (neighbours joined) (p, q))
   joined-first once p q k = ⊎_elim
       {C = ((first_tag ts ≡ Some q) × Contains {X = Tag × Tag} (neighbours joined) (p, m)) ⊎ ((first_tag ts ≢ Some q) × Contains {X = Tag × Tag} (neighbours joined) (p, q))}
-      (λ (l : (first_tag ts ≡ Some q) × Contains {X = Tag × Tag} (neighbours_from m n ts) (p, m)). inl (l.0, left (p, m) l.1))
-      (λ (r : (first_tag ts ≢ Some q) × Contains {X = Tag × Tag} (neighbours_from m n ts) (p, q)). inr (r.0, left (p, q) r.1))
+      (λ (l : (first_tag ts ≡ Some q) × Contains {X = Tag × Tag} (neighbours_from m n ts) (p, m)). inl (l.0, merge-first n ts m us (p, m) l.1))
+      (λ (r : (first_tag ts ≢ Some q) × Contains {X = Tag × Tag} (neighbours_from m n ts) (p, q)). inr (r.0, merge-first n ts m us (p, q) r.1))
       (half-keeps m n ts once p q k)
 
   pub joined-second : NoRepeats us → (p q : Tag) → Contains {X = Tag × Tag} (neighbours us) (p, q)
       → ((first_tag us ≡ Some q) × Contains {X = Tag × Tag} (neighbours joined) (p, n)) ⊎ ((first_tag us ≢ Some q) × Contains {X = Tag × Tag} (neighbours joined) (p, q))
   joined-second once p q k = ⊎_elim
       {C = ((first_tag us ≡ Some q) × Contains {X = Tag × Tag} (neighbours joined) (p, n)) ⊎ ((first_tag us ≢ Some q) × Contains {X = Tag × Tag} (neighbours joined) (p, q))}
-      (λ (l : (first_tag us ≡ Some q) × Contains {X = Tag × Tag} (neighbours_from n m us) (p, n)). inl (l.0, right (p, n) l.1))
-      (λ (r : (first_tag us ≢ Some q) × Contains {X = Tag × Tag} (neighbours_from n m us) (p, q)). inr (r.0, right (p, q) r.1))
+      (λ (l : (first_tag us ≡ Some q) × Contains {X = Tag × Tag} (neighbours_from n m us) (p, n)). inl (l.0, merge-second n ts m us (p, n) l.1))
+      (λ (r : (first_tag us ≢ Some q) × Contains {X = Tag × Tag} (neighbours_from n m us) (p, q)). inr (r.0, merge-second n ts m us (p, q) r.1))
       (half-keeps n m us once p q k)
 
   pub joined-all : (P : Tag × Tag → Type 0) → P (n, unwrap_or (first_tag ts) m) → P (m, unwrap_or (first_tag us) n)
@@ -115,17 +108,6 @@ pub record EndIn (S : Shape) (u : End) : Type 0 where
   pub loop_body : body_of S u.loop_ ≡ u.body
   pub shell : Tag
   pub body_is : item_at S u.body ≡ Some (Body shell)
-
-pub vertex_of_class : (o : Option Item) → option_map class_of_item o ≡ Some class.Vertex → (body : Tag) × (point : Point) × (o ≡ Some (Vertex body point))
-vertex_of_class None h = absurd (cc)
-vertex_of_class (Some (Vertex body point)) h = (body, point, refl)
-vertex_of_class (Some (Body shell)) h = absurd (cc)
-vertex_of_class (Some (Shell body q)) h = absurd (cc)
-vertex_of_class (Some (Face shell outer)) h = absurd (cc)
-vertex_of_class (Some (Loop face fins vertex)) h = absurd (cc)
-vertex_of_class (Some (Fin mate edge vertex)) h = absurd (cc)
-vertex_of_class (Some (Edge body)) h = absurd (cc)
-vertex_of_class (Some (Attr owner name value)) h = absurd (cc)
 
 pub first-in : (ts : List Tag) (f : Tag) → first_tag ts ≡ Some f → Contains ts f
 first-in [] f h = absurd (cc)
@@ -168,10 +150,10 @@ end-fin S well t mate edge vertex is =
       lone = w.vertex;
       loop_is = w.loop_is ∙ ap (λ f. Some (Loop f w.fins w.vertex)) (sym (owner_of_loop S some.0 w.face w.fins w.vertex w.loop_is));
       turned = turned-written t w.fins;
-      lone_is = not_some w.vertex (well.sound.lone some.0 w.face w.fins w.vertex w.loop_is ∙ some-empty w.fins t w.among) ∙ ap (λ ts. cond (is_empty ts) (Some vertex) None) (sym first.1);
-      corner = subst (λ ts. CornerAt S vertex (first_tag ts)) (sym first.1) (mate, edge, is);
+      lone_is = not_some w.vertex (well.sound.lone some.0 w.face w.fins w.vertex w.loop_is ∙ some-empty w.fins t w.among) ∙ ap (λ ts. cond (is_empty ts) (Some vertex) None) (sym first);
+      corner = subst (λ ts. CornerAt S vertex (first_tag ts)) (sym first) (mate, edge, is);
       round = round-of S vertex h;
-      alone = h.lone ∙ ap (λ c. cond {A = ℕ} c 1 0) (some-empty h.fins t ((h.are_all t).1 (mate, edge, is))) ∙ ap (λ ts. cond {A = ℕ} (is_empty ts) 1 0) (sym first.1);
+      alone = h.lone ∙ ap (λ c. cond {A = ℕ} c 1 0) (some-empty h.fins t ((h.are_all t).1 (mate, edge, is))) ∙ ap (λ ts. cond {A = ℕ} (is_empty ts) 1 0) (sym first);
       vertex_is = (well.sound.names.kinds t (Fin mate edge vertex) is).2.0;
       vertex_body = (well.sound.bodies.fins t mate edge vertex is).1 ∙ sym (up.fins some.0 w.face w.fins w.vertex w.loop_is t w.among);
       loop_body = refl;
@@ -245,8 +227,8 @@ fin-in S well f mate edge vertex is =
     record {
       fin_is = is;
       end = end-fin S well f mate edge vertex is;
-      rest = first.0;
-      fins_are = ap (written_from f) fins ∙ first.1;
+      rest = drop 1 (written_from f w.fins);
+      fins_are = ap (written_from f) fins ∙ first;
       shell_is = refl;
     }
 

@@ -15,7 +15,7 @@ use Rattle.solid_model.specs.Places.{asked, PlacedFin, placed_fin, as_fin, fins_
 use Rattle.solid_model.specs.Sound.{ComesAfter, AreOf, class_at, times_in_loops, is_alone_in, loops_alone_at, is_empty, optional}
 use Rattle.solid_sound.proofs.Lists.{same_itself, not_same, times, times-in, neighbours-in}
 use Rattle.solid_sound.proofs.Cycles.{written-first, once-written, times-written, in-written, written-in, neighbours-written, written-neighbours}
-use Rattle.solid_sound.proofs.Reading.{fin_in, fins-once, loop-of_fin, found-le}
+use Rattle.solid_sound.proofs.Reading.{vertex_of_class, fin_in, fins-once, loop-of_fin, found-le}
 use Rattle.solid_sound.proofs.Bodies.{LeadsUp, leads_up, item_of_class, agreed-LeadsUp, loop_with-some, loop_with-found}
 use Rattle.solid_sound.proofs.EdgeDeaths.{LoopLeft}
 use Rattle.solid_sound.proofs.RowKeeps.{IsWell}
@@ -123,17 +123,6 @@ module _ (S : Shape) (well : IsWell S) (f l face : Tag) (ring rest : List Tag) (
   same-ring a b h same = after_in_loop a b h same
 
 -- ---- lone vertices
-
-pub vertex_of_class : (o : Option Item) → option_map class_of_item o ≡ Some class.Vertex → (body : Tag) × (point : _) × (o ≡ Some (Vertex body point))
-vertex_of_class None h = absurd (cc)
-vertex_of_class (Some (Vertex body point)) h = (body, point, refl)
-vertex_of_class (Some (Body shell)) h = absurd (cc)
-vertex_of_class (Some (Shell body q)) h = absurd (cc)
-vertex_of_class (Some (Face shell outer)) h = absurd (cc)
-vertex_of_class (Some (Loop face fs o)) h = absurd (cc)
-vertex_of_class (Some (Fin m d s)) h = absurd (cc)
-vertex_of_class (Some (Edge body)) h = absurd (cc)
-vertex_of_class (Some (Attr owner name value)) h = absurd (cc)
 
 -- where a fin starts is no loop's lone vertex
 pub nowhere_alone : (S : Shape) → IsWell S → (f mate edge vertex : Tag) → item_at S f ≡ Some (Fin mate edge vertex) → loops_alone_at S vertex ≡ 0

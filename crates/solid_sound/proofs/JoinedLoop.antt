@@ -15,11 +15,12 @@ use Rattle.solid_model.specs.Owners.{body_of}
 use Rattle.solid_model.specs.Places.{start_at, End}
 use Rattle.solid_model.specs.Sound.{ComesAfter, AreOf, class_at, end_of, is_empty, is_alone_in}
 use Rattle.solid_sound.proofs.Lists.{one_if, contains_first, same_itself, not_same}
-use Rattle.solid_sound.proofs.Turned.{turned-in, turned-least, turned-each, turned-all, turned-neighbours, turned-once, least-again}
-use Rattle.solid_sound.proofs.Reading.{fin_in, fins-once}
+use Rattle.solid_sound.proofs.Cycles.{from_least-again}
+use Rattle.solid_sound.proofs.Turned.{turned-in, turned-least, turned-each, turned-all, turned-neighbours, turned-once}
+use Rattle.solid_sound.proofs.Reading.{vertex_of_class, fin_in, fins-once}
 use Rattle.solid_sound.proofs.Bodies.{leads_up, item_of_class}
 use Rattle.solid_sound.proofs.Corners.{IsFin, Follows, CornerAt, mate_of_fin, start_of_fin, follow-stays}
-use Rattle.solid_sound.proofs.Ends.{vertex_of_class, some-empty, joined, joined-all, joined-each, EndIn}
+use Rattle.solid_sound.proofs.Ends.{some-empty, joined, joined-all, joined-each, EndIn}
 use Rattle.solid_sound.proofs.EdgeMade.{LoopIn}
 use Rattle.solid_sound.proofs.RowKeeps.{IsWell}
 
@@ -45,7 +46,7 @@ loop-of_ring R g l face f ring face_is face_body some fins bodies follow = recor
   vertex_body = tt;
   follow = turned-all (Follows R) ring (from_least ring) (turned-least ring) follow;
   lone = sym (some-empty (from_least ring) f (turned-in ring (from_least ring) (turned-least ring) f some));
-  least = least-again ring;
+  least = from_least-again ring;
 }
 
 -- ---- one end

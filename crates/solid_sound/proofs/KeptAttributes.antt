@@ -5,7 +5,7 @@ use Rattle.std.specs.Option.{option_map_or}
 use Rattle.std.specs.List.{AllByRecursion}
 use Rattle.std.specs.FinMap.{is_sorted, put}
 use Rattle.std.specs.FinMap.Entries.{is_sorted-put}
-use Rattle.std.proofs.lemmas.Bool.{true≢false, cases_Bool, and_parts, or_cases}
+use Rattle.std.proofs.lemmas.Bool.{true≢false, cases_Bool, and_parts, or_cases, not-false}
 use Rattle.std.proofs.lemmas.Option.{same_Some}
 use Rattle.pk_base.specs.Entity.{same_tag, same_name}
 use Rattle.pk_base.proofs.Same.{same_name-Decides}
@@ -203,10 +203,6 @@ attribute-no_bone killed (Fin mate edge vertex) h = absurd (cc)
 attribute-no_bone killed (Edge body) h = absurd (cc)
 attribute-no_bone killed (Vertex body point) h = absurd (cc)
 
-not_false : (b : Bool) → not b ≡ false → b ≡ true
-not_false true h = refl
-not_false false h = absurd (cc)
-
 among_one : (q t : Tag) → is_among q (t ∷ []) ≡ true → t ≡ q
 among_one q t h = ⊎_elim (λ (l : t ≡ q). l) (λ (r : Contains [] q). absurd (not_in_nil q r)) (contains_cases t [] q (in-is_among q (t ∷ []) h))
 
@@ -219,7 +215,7 @@ drop_keeps_by S tags owner name (Some t) well is =
     let same : x ≡ Attr owner name found.0 = same_Some x _ (sym e ∙ ap (item_at S) (sym (among_one q t l)) ∙ found.1) in
     ap bone same)
     (λ (r : is_attribute_of (t ∷ []) x ≡ true). attribute-no_bone (t ∷ []) x r)
-    (or_cases (is_among q (t ∷ [])) (is_attribute_of (t ∷ []) x) (not_false (dies_with (t ∷ []) (q, x)) d)))
+    (or_cases (is_among q (t ∷ [])) (is_attribute_of (t ∷ []) x) (not-false (dies_with (t ∷ []) (q, x)) d)))
 
 pub drop-keeps : (S : Shape) (tags : List Tag) (owner : Tag) (name : Name) → IsWell S → Keeps tags (drop_attribute S owner name)
 drop-keeps S tags owner name well = keeps-bind tags (owner_of_attributes_at S owner) (λ x. dropped S owner (attribute_named S owner name))

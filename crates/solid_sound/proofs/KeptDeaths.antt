@@ -1,10 +1,10 @@
 -- A body dies with all that stands in it, and the rest stays sound.
-use Rattle.std.proofs.Common.{◌≡◌, ◌≢◌, ℕ, ⊎_elim, Bool, true, false, not, ◌||◌, cond, List, Option, Some, None, refl, sym, ap, subst, ◌∙◌}
+use Rattle.std.proofs.Common.{◌≡◌, ◌≢◌, ℕ, ⊎_elim, true, false, not, cond, List, Option, Some, None, refl, sym, ap, subst, ◌∙◌}
 use Rattle.std.specs.Prelude.{T, ℤ, pos, ◌+ℤ◌, ◌-ℤ◌, ◌&&◌, filter, option_map, Contains}
 use Rattle.std.specs.Option.{option_map_or}
 use Rattle.std.specs.List.{AllByRecursion, sum_by}
 use Rattle.std.specs.FinMap.{is_sorted}
-use Rattle.std.proofs.lemmas.Bool.{true≢false, or_cases}
+use Rattle.std.proofs.lemmas.Bool.{true≢false, or_cases, not-false}
 use Rattle.pk_base.specs.Blocks.{tag}
 use Rattle.pk_base.specs.Entity.{same_tag}
 use Rattle.pk_base.specs.declared.tag.Tag.{Tag}
@@ -25,7 +25,7 @@ use Rattle.solid_model.specs.Links.{is_fin_of}
 use Rattle.solid_model.specs.Kvfs.{kvfs, has_more_than_a_vertex}
 use Rattle.solid_model.specs.Delete.{delete}
 use Rattle.solid_model.specs.Sound.{IsSoundShape, ComesAfter, GoesRound, NamesItsKind, class_at, times_in_loops, fins_with_edge, end_of, is_alone_in, loops_alone_at}
-use Rattle.solid_sound.proofs.Lists.{same_means, not_same, same_itself, is_among-in, in-is_among, not_among, times, times-none, neighbours-in, among-map, map-among}
+use Rattle.solid_sound.proofs.Lists.{same_means, not_same, same_itself, is_among-in, in-is_among, not_among, times, times-none, neighbours-in, among-map, map-among, neither_parts, neither_from}
 use Rattle.solid_sound.proofs.Lookups.{filter-was, filter-kept, filter-sorted}
 use Rattle.solid_sound.proofs.Reading.{fin_in}
 use Rattle.solid_sound.proofs.Found.{among-item, item-among}
@@ -33,6 +33,7 @@ use Rattle.solid_sound.proofs.Sums.{sum-alike, sum-left}
 use Rattle.solid_sound.proofs.Names.{NotAttr, names-carried, named-weaker}
 use Rattle.solid_sound.proofs.Bodies.{LeadsUp, leads_up, body_of-leads, item_of_class, named-in_body, low_item}
 use Rattle.solid_sound.proofs.Numbers.{number-attribute, number-alike, number-elsewhere}
+use Rattle.solid_sound.proofs.Attributes.{attribute_of-class, no_attribute_of}
 use Rattle.solid_sound.proofs.RowKeeps.{IsWell, Keeps, keeps-after, keeps-bind}
 
 -- ---- what stands in the body
@@ -49,31 +50,6 @@ among-in_body S b t sorted k =
     (among-item (filter (λ z. same_tag (body_of S z.0) b) S) (filter-sorted (λ z. same_tag (body_of S z.0) b) S sorted) y.0.0 y.0.1 y.1) in
     ap (body_of S) (sym y.2) ∙ same_means (body_of S y.0.0) b left.1
 
-not_true : (b : Bool) → not b ≡ true → b ≡ false
-not_true true h = absurd (cc)
-not_true false h = refl
-
-not_false : (b : Bool) → not b ≡ false → b ≡ true
-not_false true h = refl
-not_false false h = absurd (cc)
-
-neither : (a b : Bool) → a || b ≡ false → (a ≡ false) × (b ≡ false)
-neither true b h = absurd (cc)
-neither false b h = (refl, h)
-
-none_dies : (a b : Bool) → a ≡ false → b ≡ false → not (a || b) ≡ true
-none_dies a b h k = λ i. not (h i || k i)
-
-no_attribute : (killed : List Tag) (x : Item) → NotAttr (class_of_item x) → is_attribute_of killed x ≡ false
-no_attribute killed (Body shell) na = refl
-no_attribute killed (Shell body q) na = refl
-no_attribute killed (Face shell outer) na = refl
-no_attribute killed (Loop face fins vertex) na = refl
-no_attribute killed (Fin mate edge vertex) na = refl
-no_attribute killed (Edge body) na = refl
-no_attribute killed (Vertex body point) na = refl
-no_attribute killed (Attr owner name value) na = absurd (na refl)
-
 -- R is S without the body
 pub record WithoutBody (S R : Shape) (b : Tag) : Type 0 where
   pub ascends : T (is_sorted tag_cmp R)
@@ -84,38 +60,28 @@ pub record WithoutBody (S R : Shape) (b : Tag) : Type 0 where
   pub sums : (w : Tag × Item → ℕ) → ((t : Tag) (x : Item) → item_at S t ≡ Some x → body_of S t ≡ b → w (t, x) ≡ 0)
       → ((t : Tag) (x : Item) → class_of_item x ≡ class.Attr → w (t, x) ≡ 0) → sum_by w R ≡ sum_by w S
 
-attribute_class : (killed : List Tag) (x : Item) → is_attribute_of killed x ≡ true → class_of_item x ≡ class.Attr
-attribute_class killed (Attr owner name value) h = refl
-attribute_class killed (Body shell) h = absurd (cc)
-attribute_class killed (Shell body q) h = absurd (cc)
-attribute_class killed (Face shell outer) h = absurd (cc)
-attribute_class killed (Loop face fins vertex) h = absurd (cc)
-attribute_class killed (Fin mate edge vertex) h = absurd (cc)
-attribute_class killed (Edge body) h = absurd (cc)
-attribute_class killed (Vertex body point) h = absurd (cc)
-
 without_body : (S : Shape) (b : Tag) → IsWell S → WithoutBody S (S without all_in_body S b) b
 without_body S b well =
     let sorted = well.written.ascends in
     let lives = λ (x : Tag × Item). not (dies_with (all_in_body S b) x) in
     record {
       ascends = filter-sorted lives S sorted;
-      stays = λ t x e na other. filter-kept lives S t x e (none_dies (is_among t (all_in_body S b)) (is_attribute_of (all_in_body S b) x)
-          (not_among t (all_in_body S b) (λ k. other (among-in_body S b t sorted k))) (no_attribute (all_in_body S b) x na));
+      stays = λ t x e na other. filter-kept lives S t x e (neither_from (is_among t (all_in_body S b)) (is_attribute_of (all_in_body S b) x)
+          (not_among t (all_in_body S b) (λ k. other (among-in_body S b t sorted k))) (no_attribute_of (all_in_body S b) x na));
       was = λ t x e. (filter-was lives S sorted t x e).0;
       outside = λ t x e h.
           let left = filter-was lives S sorted t x e in
-          let alive = neither (is_among t (all_in_body S b)) (is_attribute_of (all_in_body S b) x) (not_true (dies_with (all_in_body S b) (t, x)) left.1) in
+          let alive = neither_parts (is_among t (all_in_body S b)) (is_attribute_of (all_in_body S b) x) left.1 in
           true≢false (sym (is_among-in t (all_in_body S b) (in_body-among S b t x left.0 h)) ∙ alive.0);
       owner = λ a o n v e c live h.
           let left = filter-was lives S sorted a (Attr o n v) e in
-          let alive = neither (is_among a (all_in_body S b)) (is_among o (all_in_body S b)) (not_true (dies_with (all_in_body S b) (a, Attr o n v)) left.1) in
+          let alive = neither_parts (is_among a (all_in_body S b)) (is_among o (all_in_body S b)) left.1 in
           let y = item_of_class (item_at S o) c live in
           true≢false (sym (is_among-in o (all_in_body S b) (in_body-among S b o y.0 y.1 h)) ∙ alive.1);
       sums = λ w dead attr. sum-left w lives S sorted (λ t x e d. ⊎_elim {C = w (t, x) ≡ 0}
           (λ (l : is_among t (all_in_body S b) ≡ true). dead t x e (among-in_body S b t sorted (in-is_among t (all_in_body S b) l)))
-          (λ (r : is_attribute_of (all_in_body S b) x ≡ true). attr t x (attribute_class (all_in_body S b) x r))
-          (or_cases (is_among t (all_in_body S b)) (is_attribute_of (all_in_body S b) x) (not_false (dies_with (all_in_body S b) (t, x)) d)));
+          (λ (r : is_attribute_of (all_in_body S b) x ≡ true). attr t x (attribute_of-class (all_in_body S b) x r))
+          (or_cases (is_among t (all_in_body S b)) (is_attribute_of (all_in_body S b) x) (not-false (dies_with (all_in_body S b) (t, x)) d)));
     }
 
 module _ (S R : Shape) (b : Tag) (well : IsWell S) (left : WithoutBody S R b) where

@@ -27,7 +27,8 @@ use Rattle.solid_sound.proofs.Lookups.{Items, tags_in}
 use Rattle.solid_sound.proofs.Names.{NotAttr}
 use Rattle.solid_sound.proofs.Numbers.{counts_in}
 use Rattle.solid_sound.proofs.Sums.{Weight, weight_at}
-use Rattle.solid_sound.proofs.Edits.{Edits, edits, edits-class, edits-was, edits-attributes, KeepsClasses, class_apart, weight-at, fins-no_attribute, edges-no_attribute, lone-no_attribute, numbers-no_attribute}
+use Rattle.solid_sound.proofs.Attributes.{fins-no_attribute, edges-no_attribute, lone-no_attribute, numbers-no_attribute}
+use Rattle.solid_sound.proofs.Edits.{Edits, edits, edits-class, edits-was, edits-attributes, KeepsClasses, class_apart, weight-at}
 use Rattle.solid_sound.proofs.Bodies.{LeadsUp, leads_up}
 use Rattle.solid_sound.proofs.EachItem.{SoundFace}
 use Rattle.solid_sound.proofs.EdgeDeaths.{number_by, formula-counted, Follows, LoopLeft, EdgeDies, core-not, edge_of_class, edge_dies-well, mates-apart, ends-apart, mate_of_n, starts_n, after-starts}

@@ -2,6 +2,7 @@
 use Rattle.std.proofs.Common.{◌≡◌, ◌≢◌, ℕ, ◌+◌, ◌≤◌, length, not, inl, inr, ⊎_elim, false, cond, List, [], ◌∷◌, ◌++◌, drop, Option, Some, None, refl, sym, ap, subst, ◌∙◌, arith}
 use Rattle.std.specs.Prelude.{option_map, Contains}
 use Rattle.std.specs.List.{AllByRecursion}
+use Rattle.std.proofs.lemmas.Bool.{not-false}
 use Rattle.std.proofs.lemmas.List.Elements.{Contains-append_left, Contains-append_right}
 use Rattle.std.proofs.lemmas.Option.{same_Some}
 use Rattle.pk_base.specs.Entity.{same_tag}
@@ -29,12 +30,12 @@ use Rattle.solid_sound.proofs.Lookups.{Items, tags_in}
 use Rattle.solid_sound.proofs.Names.{NotAttr}
 use Rattle.solid_sound.proofs.Numbers.{counts_in}
 use Rattle.solid_sound.proofs.Sums.{Weight, weight_at}
-use Rattle.solid_sound.proofs.Edits.{Edits, edits, edits-class, edits-was, edits-attributes, KeepsClasses, class_apart, weight-at, weight-none, fins-no_attribute, edges-no_attribute, lone-no_attribute, numbers-no_attribute}
+use Rattle.solid_sound.proofs.Attributes.{fins-no_attribute, edges-no_attribute, lone-no_attribute, numbers-no_attribute}
+use Rattle.solid_sound.proofs.Edits.{Edits, edits, edits-class, edits-was, edits-attributes, KeepsClasses, class_apart, weight-at, weight-none}
 use Rattle.solid_sound.proofs.Bodies.{leads_up, item_of_class, body_or_new, new-body, old-body}
 use Rattle.solid_sound.proofs.EachItem.{SoundFace}
 use Rattle.solid_sound.proofs.EdgeDeaths.{number_by, formula-counted, Follows, LoopLeft, EdgeDies, core-not, edge_of_class, edge_dies-well, mates-apart, ends-apart}
 use Rattle.solid_sound.proofs.FinRings.{RingOf, asked_fin, ring_with, in-ring, ring-times, ring_owner, ring_fins, ring_face, one_loop, ring_fin, ring_body, ring-after, after-ring, before-ring, same-ring, nowhere_alone, ring-in, loop-left, loop_as, alone_if, alone-other, alone-there, alone-nowhere, lone_for, lone_for-empty, ring_or_lone-is}
-use Rattle.solid_sound.proofs.KeptRings.{not_false}
 use Rattle.solid_sound.proofs.RowKeeps.{IsWell, Keeps, keeps-after, keeps-bind, not_refused}
 
 -- ---- the row
@@ -407,10 +408,10 @@ kemr-keeps S tags f well free = keeps-bind tags (fin_at S f) _ (λ p h. keeps-bi
     let fins_same : f ∷ rest ≡ p.fins = sym (ring_fins S well f r.0 r.1 r.2 rest r.3) ∙ ap (λ (q : PlacedFin). q.fins) x.4 in
     let loop_same : r.0 ≡ p.loop_ = sym (ring_owner S well f r.0 r.1 r.2 rest r.3 f r.3.among) ∙ ap (λ (q : PlacedFin). q.loop_) x.4 in
     let loop_m : t.0 ≡ w.loop_ = sym (ring_owner S well m t.0 t.1 t.2 _ t.3 m t.3.among) ∙ ap (owner_in S) m_same ∙ ap (λ (q : PlacedFin). q.loop_) y.4 in
-    let together : t.0 ≡ r.0 = loop_m ∙ sym (same_means p.loop_ w.loop_ (not_false _ (not_refused _ _ one))) ∙ sym loop_same in
+    let together : t.0 ≡ r.0 = loop_m ∙ sym (same_means p.loop_ w.loop_ (not-false _ (not_refused _ _ one))) ∙ sym loop_same in
     let loops : Some (Loop t.1 t.2 None) ≡ Some (Loop r.1 r.2 None) = sym t.3.loop_is ∙ ap (item_at S) together ∙ r.3.loop_is in
     let lists : t.2 ≡ r.2 = cc in
-    let cut = cut-at f m rest mated.other (ring-in S well f r.0 r.1 r.2 rest r.3 m (subst (λ ts. Contains ts m) lists t.3.among)) r.3.once in
+    let cut = cut-at f m rest mated.other (ring-in S well f r.0 r.1 r.2 rest r.3 m (subst (λ ts. Contains ts m) lists t.3.among)) in
     let ring = subst (RingOf S f r.0 r.1 r.2) cut.is r.3 in
     let face_same : r.1 ≡ p.face = sym (ring_face S well f r.0 r.1 r.2 rest r.3) ∙ ap (λ (q : PlacedFin). q.face) x.4 in
     let edge_same : x.1 ≡ p.edge = ap (λ (q : PlacedFin). q.edge) x.4 in

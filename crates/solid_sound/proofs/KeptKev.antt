@@ -2,6 +2,7 @@
 use Rattle.std.proofs.Common.{◌≡◌, ◌≢◌, ℕ, ◌+◌, inl, inr, ⊎_elim, false, not, cond, List, [], ◌∷◌, drop, Option, Some, None, refl, sym, ap, subst, ◌∙◌, append-nil, arith}
 use Rattle.std.specs.Prelude.{option_map, Contains}
 use Rattle.std.specs.List.{AllByRecursion}
+use Rattle.std.proofs.lemmas.Bool.{not-false}
 use Rattle.std.proofs.lemmas.Option.{same_Some}
 use Rattle.pk_base.specs.Entity.{same_tag}
 use Rattle.pk_base.specs.declared.refusal.Refusal.TheVariants.{NotStrut}
@@ -22,18 +23,18 @@ use Rattle.solid_model.specs.Kev.{kev}
 use Rattle.solid_model.specs.Sound.{ComesAfter, AreOf, class_at, is_alone_in, loops_alone_at, optional}
 use Rattle.solid_sound.proofs.Lists.{same_means, not_same, times, times-cons, one_if, contains_first, contains_later, not_in_nil, alone_in_ring, head_or}
 use Rattle.solid_sound.proofs.Cycles.{Pair, after_first, from_least-again, times-least, least-in, least-neighbours, neighbours-least, is_empty-least, merge-second, merge-cases, between-step, between-was, cut-joins, cut-empty, cut-more}
-use Rattle.solid_sound.proofs.Reading.{next_in-parts}
+use Rattle.solid_sound.proofs.Reading.{next_in-parts, vertex_of_class}
 use Rattle.solid_sound.proofs.Found.{same_or_other}
 use Rattle.solid_sound.proofs.Lookups.{Items, tags_in}
 use Rattle.solid_sound.proofs.Names.{NotAttr}
 use Rattle.solid_sound.proofs.Numbers.{counts_in}
 use Rattle.solid_sound.proofs.Sums.{Weight, weight_at}
-use Rattle.solid_sound.proofs.Edits.{Edits, edits, edits-class, edits-was, edits-attributes, KeepsClasses, class_apart, weight-at, fins-no_attribute, edges-no_attribute, lone-no_attribute, numbers-no_attribute}
+use Rattle.solid_sound.proofs.Attributes.{fins-no_attribute, edges-no_attribute, lone-no_attribute, numbers-no_attribute}
+use Rattle.solid_sound.proofs.Edits.{Edits, edits, edits-class, edits-was, edits-attributes, KeepsClasses, class_apart, weight-at}
 use Rattle.solid_sound.proofs.Bodies.{LeadsUp, leads_up}
 use Rattle.solid_sound.proofs.EachItem.{SoundFace}
 use Rattle.solid_sound.proofs.EdgeDeaths.{number_by, formula-counted, Follows, LoopLeft, EdgeDies, core-not, edge_of_class, edge_dies-well, mates-apart, ends-apart, mate_of_n}
-use Rattle.solid_sound.proofs.FinRings.{RingOf, asked_fin, ring_with, in-ring, ring-times, ring_owner, ring_fins, ring_face, one_loop, ring_fin, ring_body, ring-after, after-ring, before-ring, same-ring, nowhere_alone, lone-other, vertex_of_class, alone_if, alone-other, alone-there, alone-nowhere, lone_for, ring_or_lone-is, lone_for-empty, loop-left, loop_as}
-use Rattle.solid_sound.proofs.KeptRings.{not_false}
+use Rattle.solid_sound.proofs.FinRings.{RingOf, asked_fin, ring_with, in-ring, ring-times, ring_owner, ring_fins, ring_face, one_loop, ring_fin, ring_body, ring-after, after-ring, before-ring, same-ring, nowhere_alone, lone-other, alone_if, alone-other, alone-there, alone-nowhere, lone_for, ring_or_lone-is, lone_for-empty, loop-left, loop_as}
 use Rattle.solid_sound.proofs.RowKeeps.{IsWell, Keeps, keeps-after, keeps-bind, not_refused}
 
 -- ---- the row
@@ -315,7 +316,7 @@ kev-keeps S tags f well = keeps-bind tags (fin_at S f) _ (λ p h. keeps-bind tag
     let r = ring_with S well f x.0 x.1 x.2 x.3 in
     let rest = drop 1 (written_from f r.2) in
     let fins_same : f ∷ rest ≡ p.fins = sym (ring_fins S well f r.0 r.1 r.2 rest r.3) ∙ ap (λ (q : PlacedFin). q.fins) x.4 in
-    let next : head_or f rest ≡ m = ap (head_or f) (sym (append-nil rest)) ∙ sym (next_in-parts f [] rest (λ j. not_in_nil f j)) ∙ ap (λ ts. next_in ts f) fins_same ∙ same_means (next_in p.fins f) p.mate (not_false _ (not_refused _ _ none)) ∙ sym m_same in
+    let next : head_or f rest ≡ m = ap (head_or f) (sym (append-nil rest)) ∙ sym (next_in-parts f [] rest (λ j. not_in_nil f j)) ∙ ap (λ ts. next_in ts f) fins_same ∙ same_means (next_in p.fins f) p.mate (not-false _ (not_refused _ _ none)) ∙ sym m_same in
     let ring = subst (RingOf S f r.0 r.1 r.2) (strut-rest f m rest next mated.other) r.3 in
     let both : Some (Fin f x.1 mated.end) ≡ Some (Fin y.0 y.1 y.2) = sym mated.mate_is ∙ ap (item_at S) m_same ∙ y.3 in
     let end_same : mated.end ≡ w.vertex = (let e : mated.end ≡ y.2 = cc in e) ∙ ap (λ (q : PlacedFin). q.vertex) y.4 in

@@ -5,7 +5,7 @@ use Rattle.std.specs.Option.{option_map_or}
 use Rattle.std.specs.List.{sum_by}
 use Rattle.std.specs.FinMap.{is_sorted, put}
 use Rattle.std.specs.FinMap.Entries.{is_sorted-put}
-use Rattle.std.proofs.lemmas.Bool.{true≢false, cases_Bool, or_cases}
+use Rattle.std.proofs.lemmas.Bool.{true≢false, cases_Bool, or_cases, not-false}
 use Rattle.std.proofs.lemmas.Bool.Decides.{nat_tests}
 use Rattle.std.proofs.lemmas.Int.{ints}
 use Rattle.std.proofs.lemmas.Option.{same_Some}
@@ -26,49 +26,29 @@ use Rattle.solid_model.specs.Places.{face_at, q_at, in_face}
 use Rattle.solid_model.specs.Kfmrh.{kfmrh}
 use Rattle.solid_model.specs.Deaths.{is_attribute_of, dies_with, ◌without◌}
 use Rattle.solid_model.specs.Sound.{MeetsEulerPoincare, class_at}
-use Rattle.solid_sound.proofs.Lists.{same_itself, same_means, differs_means, not_same, is_among-in, in-is_among, not_among, not_in_nil, contains_first, among-map}
+use Rattle.solid_sound.proofs.Lists.{same_itself, same_means, differs_means, not_same, is_among-in, in-is_among, not_among, not_in_nil, contains_first, among-map, neither_parts, neither_from}
 use Rattle.solid_sound.proofs.Lookups.{put-same, put-other, filter-was, filter-kept}
 use Rattle.solid_sound.proofs.Found.{same_or_other, item-among}
 use Rattle.solid_sound.proofs.Names.{NotAttr}
 use Rattle.solid_sound.proofs.Numbers.{number-attribute, counts_in}
+use Rattle.solid_sound.proofs.Attributes.{attribute_of-class, no_attribute_of}
 use Rattle.solid_sound.proofs.Sums.{weight_at, sum-alike, sum-put, sum-filter, sum-but}
 use Rattle.solid_sound.proofs.Bodies.{LeadsUp, leads_up, item_of_class}
 use Rattle.solid_sound.proofs.EachItem.{SoundFace}
 use Rattle.solid_sound.proofs.Frames.{SameFrame, frame, frame_of, same_frame-put, same_frame-left, same_frame-trans}
 use Rattle.solid_sound.proofs.RowKeeps.{IsWell, Keeps, keeps-after, keeps-bind, not_refused}
-use Rattle.solid_sound.proofs.KeptRings.{Refaced, refaced-well, apart, asked_face, FaceIn, face_in, in_face-is, not_false}
+use Rattle.solid_sound.proofs.KeptRings.{Refaced, refaced-well, apart, asked_face, FaceIn, face_in, in_face-is}
 
 -- one face less of the same loops, and one handle less
 formula-less : (v e f l : ℕ) (q : ℤ) → ((pos v -ℤ pos e) +ℤ pos (1 + f)) -ℤ (pos l -ℤ pos (1 + f)) ≡ pos 2 *ℤ q
     → ((pos v -ℤ pos e) +ℤ pos f) -ℤ (pos l -ℤ pos f) ≡ pos 2 *ℤ (q -ℤ pos 1)
 formula-less v e f l q h = omega (arith, ints)
 
-dies_not : (a b : Bool) → not (a || b) ≡ true → (a ≡ false) × (b ≡ false)
-dies_not true b h = absurd (cc)
-dies_not false true h = absurd (cc)
-dies_not false false h = (refl, refl)
-
-lives_if : (a b : Bool) → a ≡ false → b ≡ false → not (a || b) ≡ true
-lives_if a b h k = λ i. not (h i || k i)
-
 not_one_of : (q t : Tag) → is_among q (t ∷ []) ≡ false → q ≢ t
 not_one_of q t h e = true≢false (sym (is_among-in q (t ∷ []) (subst (λ u. Contains (t ∷ []) u) (sym e) (contains_first t []))) ∙ h)
 
 one_of_not : (q t : Tag) → q ≢ t → is_among q (t ∷ []) ≡ false
 one_of_not q t h = not_among q (t ∷ []) (λ k. h (sym (contains_only t q k)))
-
-killed_attribute : (killed : List Tag) (x : Item) → is_attribute_of killed x ≡ true → class_of_item x ≡ class.Attr
-killed_attribute killed (Attr owner name value) h = refl
-killed_attribute killed (Body shell) h = absurd (cc)
-killed_attribute killed (Shell body q) h = absurd (cc)
-killed_attribute killed (Face shell outer) h = absurd (cc)
-killed_attribute killed (Loop face fins vertex) h = absurd (cc)
-killed_attribute killed (Fin mate edge vertex) h = absurd (cc)
-killed_attribute killed (Edge body) h = absurd (cc)
-killed_attribute killed (Vertex body point) h = absurd (cc)
-
-no_attribute : (killed : List Tag) (x : Item) → NotAttr (class_of_item x) → is_attribute_of killed x ≡ false
-no_attribute killed x na = ⊎_elim (λ (l : is_attribute_of killed x ≡ true). absurd (na (killed_attribute killed x l))) (λ r. r) (cases_Bool (is_attribute_of killed x))
 
 attribute_frame : (x : Item) → class_of_item x ≡ class.Attr → frame x ≡ None
 attribute_frame (Attr owner name value) h = refl
@@ -121,7 +101,7 @@ module _ (S : Shape) (well : IsWell S) (l a b shell_a outer_a shell : Tag) (fins
   B_b = put-other A shell b _ (λ k. shell_b (sym k)) ∙ put-other S l b _ (λ k. l_b (sym k)) ∙ b_is
 
   kept : (t : Tag) (x : Item) → item_at B t ≡ Some x → NotAttr (class_of_item x) → t ≢ b → item_at R t ≡ Some x
-  kept t x e na other = filter-kept lives B t x e (lives_if (is_among t (b ∷ [])) (is_attribute_of (b ∷ []) x) (one_of_not t b other) (no_attribute (b ∷ []) x na))
+  kept t x e na other = filter-kept lives B t x e (neither_from (is_among t (b ∷ [])) (is_attribute_of (b ∷ []) x) (one_of_not t b other) (no_attribute_of (b ∷ []) x na))
 
   l_now : item_at R l ≡ Some (Loop a fins vertex)
   l_now = kept l _ (put-other A shell l _ l_shell ∙ put-same S l _) (λ k. cc) l_b
@@ -135,7 +115,7 @@ module _ (S : Shape) (well : IsWell S) (l a b shell_a outer_a shell : Tag) (fins
   alive : (t : Tag) (x : Item) → item_at R t ≡ Some x → (t ≢ b) × (is_attribute_of (b ∷ []) x ≡ false)
   alive t x e =
       let left = filter-was lives B B_sorted t x e in
-      let both = dies_not (is_among t (b ∷ [])) (is_attribute_of (b ∷ []) x) left.1 in
+      let both = neither_parts (is_among t (b ∷ [])) (is_attribute_of (b ∷ []) x) left.1 in
       (not_one_of t b both.0, both.1)
 
   was : (t : Tag) (x : Item) → item_at R t ≡ Some x → t ≢ l → t ≢ shell → item_at S t ≡ Some x
@@ -160,8 +140,8 @@ module _ (S : Shape) (well : IsWell S) (l a b shell_a outer_a shell : Tag) (fins
       (λ (k : is_among t (b ∷ []) ≡ true).
       let same : b ≡ t = contains_only b t (in-is_among t (b ∷ []) k) in
       ap frame (same_Some x (Face shell l) (sym e ∙ ap (item_at B) (sym same) ∙ B_b)))
-      (λ (k : is_attribute_of (b ∷ []) x ≡ true). attribute_frame x (killed_attribute (b ∷ []) x k))
-      (or_cases (is_among t (b ∷ [])) (is_attribute_of (b ∷ []) x) (not_false (dies_with (b ∷ []) (t, x)) d)))))
+      (λ (k : is_attribute_of (b ∷ []) x ≡ true). attribute_frame x (attribute_of-class (b ∷ []) x k))
+      (or_cases (is_among t (b ∷ [])) (is_attribute_of (b ∷ []) x) (not-false (dies_with (b ∷ []) (t, x)) d)))))
 
   up : LeadsUp S (body_of S)
   up = leads_up S well.written well.sound
@@ -181,10 +161,10 @@ module _ (S : Shape) (well : IsWell S) (l a b shell_a outer_a shell : Tag) (fins
       ∙ sym (ap (λ c. cond c 0 (w (t, x))) (ap (λ u. same_tag u b) k ∙ same_itself b)))
       (λ (k : t ≢ b). ⊎_elim {C = cond (lives (t, x)) (w (t, x)) 0 ≡ cond (same_tag t b) 0 (w (t, x))}
       (λ (dead : is_attribute_of (b ∷ []) x ≡ true).
-      let zero : w (t, x) ≡ 0 = number-attribute class.Face refl (same_tag (body_of S t) d) x (killed_attribute (b ∷ []) x dead) in
+      let zero : w (t, x) ≡ 0 = number-attribute class.Face refl (same_tag (body_of S t) d) x (attribute_of-class (b ∷ []) x dead) in
       ap (λ n. cond (lives (t, x)) n 0) zero ∙ both_zero (lives (t, x)) (same_tag t b) ∙ sym (ap (λ n. cond (same_tag t b) 0 n) zero))
       (λ (other : is_attribute_of (b ∷ []) x ≡ false).
-      ap (λ c. cond c (w (t, x)) 0) (lives_if (is_among t (b ∷ [])) (is_attribute_of (b ∷ []) x) (one_of_not t b k) other) ∙ sym (ap (λ c. cond c 0 (w (t, x))) (not_same t b k)))
+      ap (λ c. cond c (w (t, x)) 0) (neither_from (is_among t (b ∷ [])) (is_attribute_of (b ∷ []) x) (one_of_not t b k) other) ∙ sym (ap (λ c. cond c 0 (w (t, x))) (not_same t b k)))
       (cases_Bool (is_attribute_of (b ∷ []) x)))
       (same_or_other t b)) in
       omega (arith, one, more, at_l, at_shell, at_b, but, left)
@@ -304,7 +284,7 @@ kfmrh-keeps S tags a b well = keeps-bind tags (face_at S a) _ (λ keep e. keeps-
     let F = face_in S well b y.0 y.1 y.2 in
     let G = face_in S well a x.0 x.1 x.2 in
     let l = well.sound.outer b y.0 y.1 y.2 in
-    let one_body : body_of S a ≡ body_of S b = G.face_body ∙ sym G.owner_is ∙ x.4 ∙ same_means keep.body kill.body (not_false (same_tag keep.body kill.body) (not_refused _ _ m)) ∙ sym y.4 ∙ F.owner_is ∙ sym F.face_body in
+    let one_body : body_of S a ≡ body_of S b = G.face_body ∙ sym G.owner_is ∙ x.4 ∙ same_means keep.body kill.body (not-false (same_tag keep.body kill.body) (not_refused _ _ m)) ∙ sym y.4 ∙ F.owner_is ∙ sym F.face_body in
     let only : (t : Tag) (fs : List Tag) (v : Option Tag) → item_at S t ≡ Some (Loop b fs v) → t ≡ y.1 =
     λ t fs v is. no_two (parts_of_class class.Loop S b) t y.1 (not_refused _ _ o) (loop_among_parts S t b fs v is) (loop_among_parts S y.1 b l.0 l.1 l.2) in
     let body_is : F.body ≡ kill.body = sym F.owner_is ∙ y.4 in

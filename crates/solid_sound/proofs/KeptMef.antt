@@ -3,6 +3,7 @@ use Rattle.std.proofs.Common.{◌≡◌, ◌≢◌, ℕ, ◌+◌, ◌<◌, ◌�
 use Rattle.std.specs.Prelude.{option_map, Contains}
 use Rattle.std.specs.List.{AllByRecursion}
 use Rattle.std.specs.FinMap.{put}
+use Rattle.std.proofs.lemmas.Bool.{not-false}
 use Rattle.std.proofs.lemmas.List.Elements.{Contains-append_right}
 use Rattle.std.proofs.lemmas.Option.{same_Some}
 use Rattle.pk_base.specs.Entity.{same_tag}
@@ -22,8 +23,10 @@ use Rattle.solid_model.specs.Rows.{refuse_where}
 use Rattle.solid_model.specs.Links.{is_fin_of}
 use Rattle.solid_model.specs.Mef.{mef}
 use Rattle.solid_model.specs.Sound.{ComesAfter, class_at, times_in_loops, fins_with_edge, is_alone_in, is_empty, loops_alone_at, end_of, AreOf}
-use Rattle.solid_sound.proofs.Lists.{same_means, differs_means, one_if, times, parts, contains_first, contains_later}
+use Rattle.solid_sound.proofs.Lists.{same_means, differs_means, one_if, times, contains_first, contains_later}
+use Rattle.solid_sound.proofs.Cycles.{cut-at}
 use Rattle.solid_sound.proofs.Turned.{Turned, turned-back, turned-in, turned-least, turned-neighbours, turned-times}
+use Rattle.solid_sound.proofs.Reading.{vertex_of_class}
 use Rattle.solid_sound.proofs.Lookups.{Items}
 use Rattle.solid_sound.proofs.Found.{same_or_other}
 use Rattle.solid_sound.proofs.Sums.{adds}
@@ -31,14 +34,15 @@ use Rattle.solid_sound.proofs.Names.{NotAttr}
 use Rattle.solid_sound.proofs.Bodies.{body_or_new, new-body, old-body}
 use Rattle.solid_sound.proofs.Asked.{free_at, apart_at}
 use Rattle.solid_sound.proofs.EachItem.{SoundFace}
+use Rattle.solid_sound.proofs.Attributes.{fins-no_attribute, edges-no_attribute, lone-no_attribute}
 use Rattle.solid_sound.proofs.Changed.{Changed, changed-put, number-changed}
 use Rattle.solid_sound.proofs.Corners.{IsFin, Follows, CornerAt, Round, comes-here, comes-here_or_not, start_of_fin, mate_of_fin}
 use Rattle.solid_sound.proofs.EdgeMade.{made_in, is_fixed, fixed-not_attr, fixed-other, LoopIn, FaceOf, EdgeMade, edge-well}
-use Rattle.solid_sound.proofs.ByClass.{each-fin, each-edge, each-vertex, each-face, each-loop, outside-was, class-kept, count-times, count-edges, count-lone}
-use Rattle.solid_sound.proofs.Ends.{EndIn, as_end, FinIn, fin-well, vertex_of_class}
+use Rattle.solid_sound.proofs.ByClass.{each-fin, each-edge, each-vertex, each-face, each-loop, outside-was, class-kept}
+use Rattle.solid_sound.proofs.Ends.{EndIn, as_end, FinIn, fin-well}
 use Rattle.solid_sound.proofs.JoinedLoop.{end-once, end-loop_body, end-vertex_body, end-body, end-face, end-face_body, Side, loop-comes, loop-of_ring, side-of_end, end-alone}
 use Rattle.solid_sound.proofs.Parted.{whole, first_part, second_part, Place, parted, parted-after_n, parted-after_m, ends_apart, first-all, second-all, first-each, second-each, parted-times}
-use Rattle.solid_sound.proofs.KeptRings.{face_of_class, FaceIn, face_in, not_false}
+use Rattle.solid_sound.proofs.KeptRings.{face_of_class, FaceIn, face_in}
 use Rattle.solid_sound.proofs.KeptMotions.{AreCoordinates}
 use Rattle.solid_sound.proofs.RowKeeps.{IsWell, Keeps, keeps-after, keeps-bind, not_refused}
 
@@ -204,7 +208,7 @@ module _ (S : Shape) (well : IsWell S) (u : End) (E : EndIn S u) (a c v shell ou
 
   times_more : (t : Tag) → times_in_loops R t ≡ (one_if (same_tag n t) + one_if (same_tag m t)) + times_in_loops S t
   times_more t =
-      let s = change.sums (λ x. times t (fins_of x.1)) (count-times t) in
+      let s = change.sums (λ x. times t (fins_of x.1)) (fins-no_attribute t) in
       let h = parted-times a c n m ts us t in
       let i = turned-times fresh (from_least fresh) (turned-least fresh) t in
       let j = turned-times rest (from_least rest) (turned-least rest) t in
@@ -212,14 +216,14 @@ module _ (S : Shape) (well : IsWell S) (u : End) (E : EndIn S u) (a c v shell ou
       omega (arith, s, h, i, j, k)
 
   fins_more : (t : Tag) → fins_with_edge R t ≡ (one_if (same_tag e t) + one_if (same_tag e t)) + fins_with_edge S t
-  fins_more t = let s = change.sums (λ x. cond (is_fin_of t x.1) 1 0) (count-edges t) in omega (arith, s)
+  fins_more t = let s = change.sums (λ x. cond (is_fin_of t x.1) 1 0) (edges-no_attribute t) in omega (arith, s)
 
   not_empty : is_empty u.fins ≡ false
   not_empty = ap is_empty cut
 
   lone_same : (t : Tag) → loops_alone_at R t ≡ loops_alone_at S t
   lone_same t =
-      let s = change.sums (λ x. cond (is_alone_in t x.1) 1 0) (count-lone t) in
+      let s = change.sums (λ x. cond (is_alone_in t x.1) 1 0) (lone-no_attribute t) in
       let none : cond {A = ℕ} (is_alone_in t old) 1 0 ≡ 0 = end-alone S u E t ∙ ap (λ b. cond {A = ℕ} b (one_if (same_tag u.vertex t)) 0) not_empty in
       omega (arith, s, none)
 
@@ -336,24 +340,6 @@ module _ (S : Shape) (well : IsWell S) (u : End) (E : EndIn S u) (a c v shell ou
 
 -- ---- the row
 
--- the list from the fin f, cut at the fin g
-record Cut (f g : Tag) (fins : List Tag) : Type 0 where
-  pub ts : List Tag
-  pub us : List Tag
-  pub is : fins ≡ f ∷ ts ++ g ∷ us
-  pub first : before g fins ≡ f ∷ ts
-  pub second : from g fins ≡ g ∷ us
-
-cut_at : (f g : Tag) (fins rest : List Tag) → fins ≡ f ∷ rest → Contains fins g → f ≢ g → Cut f g fins
-cut_at f g fins rest is among other = let p = parts g fins among in by p.pre p.post p.is p.before_is p.from_is
-  where
-    by : (pre post : List Tag) → fins ≡ pre ++ g ∷ post → before g fins ≡ pre → from g fins ≡ g ∷ post → Cut f g fins
-    by [] post whole first second = let same : f ∷ rest ≡ g ∷ post = sym is ∙ whole in absurd (other (cc))
-    by (t ∷ pre) post whole first second =
-        let all : f ∷ rest ≡ t ∷ pre ++ g ∷ post = sym is ∙ whole in
-        let same : t ≡ f = cc in
-        record { ts = pre; us = post; is = whole ∙ ap (λ h. h ∷ pre ++ g ∷ post) same; first = first ∙ ap (λ h. h ∷ pre) same; second = second }
-
 same_list : (face to : Tag) (fins list : List Tag) (vertex after : Option Tag) → Some (Loop face fins vertex) ≡ Some (Loop to list after) → fins ≡ list
 same_list face to fins list vertex after h = cc
 
@@ -382,12 +368,12 @@ mef-well S tags f g well ascend free u v U V one_loop ends enough =
     let list : V.end.list ≡ U.end.list = same_list v.face u.face V.end.list U.end.list V.end.lone U.end.lone (sym V.end.loop_is ∙ ap (item_at S) (sym one_loop) ∙ U.end.loop_is) in
     let g_first : Contains v.fins g = subst (λ ts. Contains ts g) (sym V.fins_are) (contains_first g V.rest) in
     let g_in : Contains u.fins g = turned-in U.end.list u.fins U.end.turned g (subst (λ ts. Contains ts g) list (turned-in v.fins V.end.list (turned-back V.end.list v.fins V.end.turned) g g_first)) in
-    let cut = cut_at f g u.fins U.rest U.fins_are g_in other in
+    let cut = cut-at f g U.rest (λ h. other (sym h)) (subst (λ ts. Contains ts g) U.fins_are g_in) in
     let body : v.body ≡ u.body = sym V.end.loop_body ∙ ap (body_of S) (sym one_loop) ∙ U.end.loop_body in
     let face = face_of_class (item_at S u.face) (well.sound.names.kinds u.loop_ _ U.end.loop_is).0.0 in
     let shell_is : face.0 ≡ u.shell = sym (face_in S well u.face face.0 face.1 face.2).shell_of ∙ U.shell_is in
-    let first = sym cut.first in
-    let second = sym cut.second in
+    let first : f ∷ cut.ahead ≡ before g u.fins = sym (ap (before g) U.fins_are ∙ cut.before_is) in
+    let second : g ∷ cut.behind ≡ from g u.fins = sym (ap (from g) U.fins_are ∙ cut.from_is) in
     subst IsWell
     (λ i. S with
     (tag_at tags 0, Face (shell_is i) (tag_at tags 1)) ∷
@@ -396,7 +382,7 @@ mef-well S tags f g well ascend free u v U V one_loop ends enough =
     (tag_at tags 3, Fin (tag_at tags 4) (tag_at tags 2) v.vertex) ∷
     (tag_at tags 4, Fin (tag_at tags 3) (tag_at tags 2) u.vertex) ∷
     (u.loop_, ring_of u.face (second i ++ tag_at tags 4 ∷ [])) ∷ [])
-    (face-parted S well (as_end u) U.end f g v.vertex face.0 face.1 cut.ts cut.us cut.is (u.mate, u.edge, U.fin_is) (v.mate, v.edge, V.fin_is) V.end.round V.end.vertex_is
+    (face-parted S well (as_end u) U.end f g v.vertex face.0 face.1 cut.ahead cut.behind (U.fins_are ∙ ap (λ ts. f ∷ ts) cut.is) (u.mate, u.edge, U.fin_is) (v.mate, v.edge, V.fin_is) V.end.round V.end.vertex_is
     (V.end.vertex_body ∙ body) (V.end.alone ∙ ap (λ ts. cond {A = ℕ} (is_empty ts) 1 0) V.fins_are) (λ h. ends (sym h)) face.2
     (tag_at tags 0) (tag_at tags 1) (tag_at tags 2) (tag_at tags 3) (tag_at tags 4) once fresh
     (body_or_new S new u.body) (λ t x is. old-body S new u.body t x fresh is)
@@ -407,4 +393,4 @@ pub mef-keeps : (S : Shape) (tags : List Tag) (f g : Tag) → IsWell S → TagsA
 mef-keeps S tags f g well ascend free = keeps-bind tags (fin_at S f) _ (λ u h. keeps-bind tags (fin_at S g) _ (λ v k.
     keeps-after tags (refuse_where (not (same_tag u.loop_ v.loop_)) (NotOneLoop u.loop_ v.loop_)) _ (λ one. keeps-after tags (refuse_where (same_tag u.vertex v.vertex) (SameVertex u.vertex)) _ (λ two enough.
     mef-well S tags f g well ascend free u v (fin-well S well f (item_at S f) refl u h) (fin-well S well g (item_at S g) refl v k)
-    (same_means u.loop_ v.loop_ (not_false (same_tag u.loop_ v.loop_) (not_refused _ _ one))) (differs_means u.vertex v.vertex (not_refused _ _ two)) enough))))
+    (same_means u.loop_ v.loop_ (not-false (same_tag u.loop_ v.loop_) (not_refused _ _ one))) (differs_means u.vertex v.vertex (not_refused _ _ two)) enough))))

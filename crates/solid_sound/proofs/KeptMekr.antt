@@ -4,6 +4,7 @@ use Rattle.std.specs.Prelude.{ℤ, option_map, unwrap_or, Contains}
 use Rattle.std.specs.Option.{option_map_or}
 use Rattle.std.specs.List.{AllByRecursion}
 use Rattle.std.specs.FinMap.{put}
+use Rattle.std.proofs.lemmas.Bool.{not-false}
 use Rattle.pk_base.specs.Blocks.{tag}
 use Rattle.pk_base.specs.Entity.{same_tag}
 use Rattle.pk_base.specs.declared.tag.Tag.{Tag}
@@ -26,6 +27,7 @@ use Rattle.solid_model.specs.Mekr.{mekr}
 use Rattle.solid_model.specs.Sound.{ComesAfter, class_at, times_in_loops, fins_with_edge, is_alone_in, loops_alone_at}
 use Rattle.solid_sound.proofs.Lists.{same_means, differs_means, one_if, times}
 use Rattle.solid_sound.proofs.Turned.{turned-back, turned-in, turned-least, turned-neighbours, turned-times}
+use Rattle.solid_sound.proofs.Reading.{vertex_of_class}
 use Rattle.solid_sound.proofs.Lookups.{Items}
 use Rattle.solid_sound.proofs.Found.{same_or_other}
 use Rattle.solid_sound.proofs.Sums.{adds}
@@ -33,13 +35,14 @@ use Rattle.solid_sound.proofs.Names.{NotAttr}
 use Rattle.solid_sound.proofs.Bodies.{leads_up, body_or_new, new-body, old-body}
 use Rattle.solid_sound.proofs.Asked.{free_at, apart_at}
 use Rattle.solid_sound.proofs.EachItem.{SoundFace}
+use Rattle.solid_sound.proofs.Attributes.{fins-no_attribute, edges-no_attribute, lone-no_attribute}
 use Rattle.solid_sound.proofs.Changed.{Changed, changed-put, changed-kill, owner-alive, number-changed}
 use Rattle.solid_sound.proofs.Corners.{IsFin, comes-here, comes-here_or_not}
 use Rattle.solid_sound.proofs.EdgeMade.{made_in, is_fixed, fixed-not_attr, fixed-other, LoopIn, FaceOf, EdgeMade, edge-well}
-use Rattle.solid_sound.proofs.ByClass.{each-fin, each-edge, each-vertex, each-face, each-loop, outside-was, class-kept, count-times, count-edges, count-lone}
-use Rattle.solid_sound.proofs.Ends.{EndIn, end-well, vertex_of_class, first-in, joined, joined-after_n, joined-after_m, joined-first, joined-second, joined-times}
+use Rattle.solid_sound.proofs.ByClass.{each-fin, each-edge, each-vertex, each-face, each-loop, outside-was, class-kept}
+use Rattle.solid_sound.proofs.Ends.{EndIn, end-well, first-in, joined, joined-after_n, joined-after_m, joined-first, joined-second, joined-times}
 use Rattle.solid_sound.proofs.JoinedLoop.{end-once, end-loop_body, end-vertex_body, end-body, end-face, end-face_body, Side, loop-comes, side-of_end, end-alone_own, end-alone_other, joined-loop}
-use Rattle.solid_sound.proofs.KeptRings.{free_apart, not_false}
+use Rattle.solid_sound.proofs.KeptRings.{free_apart}
 use Rattle.solid_sound.proofs.KeptMotions.{AreCoordinates}
 use Rattle.solid_sound.proofs.RowKeeps.{IsWell, Keeps, keeps-after, keeps-bind, not_refused}
 
@@ -191,7 +194,7 @@ module _ (S : Shape) (well : IsWell S) (u v : End) (E : EndIn S u) (G : EndIn S 
 
   times_more : (t : Tag) → times_in_loops R t ≡ (one_if (same_tag n t) + one_if (same_tag m t)) + times_in_loops S t
   times_more t =
-      let s = change.sums (λ x. times t (fins_of x.1)) (count-times t) in
+      let s = change.sums (λ x. times t (fins_of x.1)) (fins-no_attribute t) in
       let a = joined-times n m v.fins u.fins t in
       let b = turned-times ring (from_least ring) (turned-least ring) t in
       let c = turned-times E.list u.fins E.turned t in
@@ -199,21 +202,21 @@ module _ (S : Shape) (well : IsWell S) (u v : End) (E : EndIn S u) (G : EndIn S 
       omega (arith, s, a, b, c, d)
 
   fins_more : (t : Tag) → fins_with_edge R t ≡ (one_if (same_tag e t) + one_if (same_tag e t)) + fins_with_edge S t
-  fins_more t = let s = change.sums (λ x. cond (is_fin_of t x.1) 1 0) (count-edges t) in omega (arith, s)
+  fins_more t = let s = change.sums (λ x. cond (is_fin_of t x.1) 1 0) (edges-no_attribute t) in omega (arith, s)
 
   u_lone : loops_alone_at R u.vertex ≡ 0
   u_lone =
-      let s = change.sums (λ x. cond (is_alone_in u.vertex x.1) 1 0) (count-lone u.vertex) in
+      let s = change.sums (λ x. cond (is_alone_in u.vertex x.1) 1 0) (lone-no_attribute u.vertex) in
       omega (arith, s, end-alone_own S u E, end-alone_other S v G u.vertex ends, E.alone)
 
   v_lone : loops_alone_at R v.vertex ≡ 0
   v_lone =
-      let s = change.sums (λ x. cond (is_alone_in v.vertex x.1) 1 0) (count-lone v.vertex) in
+      let s = change.sums (λ x. cond (is_alone_in v.vertex x.1) 1 0) (lone-no_attribute v.vertex) in
       omega (arith, s, end-alone_own S v G, end-alone_other S u E v.vertex (λ h. ends (sym h)), G.alone)
 
   lone_same : (t : Tag) → t ≢ u.vertex → t ≢ v.vertex → loops_alone_at R t ≡ loops_alone_at S t
   lone_same t nu nv =
-      let s = change.sums (λ x. cond (is_alone_in t x.1) 1 0) (count-lone t) in
+      let s = change.sums (λ x. cond (is_alone_in t x.1) 1 0) (lone-no_attribute t) in
       omega (arith, s, end-alone_other S u E t nu, end-alone_other S v G t nv)
 
   -- ---- all
@@ -298,7 +301,7 @@ mekr-keeps S tags k r well ascend free = keeps-bind tags (end_at S k) _ (λ u h.
     let apart = λ (i j : ℕ) (h : i < j) (k : j < 3). apart_at tags i j ascend h (omega (arith, k, enough)) in
     let once : NoRepeats new = ((apart 0 1 (omega arith) (omega arith), (apart 0 2 (omega arith) (omega arith), tt)), ((apart 1 2 (omega arith) (omega arith), tt), (tt, tt))) in
     ring-joined S well u v (end-well S well k (item_at S k) refl u h) (end-well S well r (item_at S r) refl v j)
-    (same_means u.face v.face (not_false (same_tag u.face v.face) (not_refused _ _ face))) (differs_means u.loop_ v.loop_ (not_refused _ _ loops))
+    (same_means u.face v.face (not-false (same_tag u.face v.face) (not_refused _ _ face))) (differs_means u.loop_ v.loop_ (not_refused _ _ loops))
     (differs_means v.loop_ (outer_at S v.face) (not_refused _ _ ring)) (differs_means u.vertex v.vertex (not_refused _ _ ends))
     (tag_at tags 0) (tag_at tags 1) (tag_at tags 2) once fresh (body_or_new S new u.body) (λ t x is. old-body S new u.body t x fresh is)
     (new-body S new u.body (tag_at tags 0) (0, omega arith, refl)) (new-body S new u.body (tag_at tags 1) (1, omega arith, refl)) (new-body S new u.body (tag_at tags 2) (2, omega arith, refl))))))))

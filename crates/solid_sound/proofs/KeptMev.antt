@@ -23,6 +23,7 @@ use Rattle.solid_model.specs.Mev.{mev}
 use Rattle.solid_model.specs.Sound.{ComesAfter, class_at, times_in_loops, fins_with_edge, is_alone_in, loops_alone_at}
 use Rattle.solid_sound.proofs.Lists.{one_if, times}
 use Rattle.solid_sound.proofs.Turned.{turned-back, turned-in, turned-least, turned-neighbours, turned-times}
+use Rattle.solid_sound.proofs.Reading.{vertex_of_class}
 use Rattle.solid_sound.proofs.Lookups.{Items}
 use Rattle.solid_sound.proofs.Found.{same_or_other}
 use Rattle.solid_sound.proofs.Sums.{adds}
@@ -30,11 +31,12 @@ use Rattle.solid_sound.proofs.Names.{NotAttr}
 use Rattle.solid_sound.proofs.Bodies.{body_or_new, new-body, old-body}
 use Rattle.solid_sound.proofs.Asked.{free_at, apart_at}
 use Rattle.solid_sound.proofs.EachItem.{SoundFace}
+use Rattle.solid_sound.proofs.Attributes.{fins-no_attribute, edges-no_attribute, lone-no_attribute}
 use Rattle.solid_sound.proofs.Changed.{Changed, changed-put, number-changed}
 use Rattle.solid_sound.proofs.Corners.{IsFin, round-none, comes-here, comes-here_or_not}
 use Rattle.solid_sound.proofs.EdgeMade.{made_in, is_fixed, fixed-not_attr, fixed-other, LoopIn, FaceOf, EdgeMade, free-lone, free-corner, edge-well}
-use Rattle.solid_sound.proofs.ByClass.{each-fin, each-edge, each-vertex, each-face, each-loop, outside-was, class-kept, count-times, count-edges, count-lone}
-use Rattle.solid_sound.proofs.Ends.{EndIn, end-well, vertex_of_class, first-in, joined, joined-after_n, joined-after_m, joined-second, joined-times}
+use Rattle.solid_sound.proofs.ByClass.{each-fin, each-edge, each-vertex, each-face, each-loop, outside-was, class-kept}
+use Rattle.solid_sound.proofs.Ends.{EndIn, end-well, first-in, joined, joined-after_n, joined-after_m, joined-second, joined-times}
 use Rattle.solid_sound.proofs.JoinedLoop.{end-once, end-loop_body, end-vertex_body, end-body, end-face, end-face_body, Side, loop-comes, side-none, side-of_end, end-alone_own, end-alone_other, joined-loop}
 use Rattle.solid_sound.proofs.KeptMotions.{AreCoordinates, outside-none}
 use Rattle.solid_sound.proofs.RowKeeps.{IsWell, Keeps, keeps-after, keeps-bind}
@@ -138,26 +140,26 @@ module _ (S : Shape) (well : IsWell S) (u : End) (E : EndIn S u) (w e n m : Tag)
 
   times_more : (t : Tag) → times_in_loops R t ≡ (one_if (same_tag n t) + one_if (same_tag m t)) + times_in_loops S t
   times_more t =
-      let s = change.sums (λ x. times t (fins_of x.1)) (count-times t) in
+      let s = change.sums (λ x. times t (fins_of x.1)) (fins-no_attribute t) in
       let a = joined-times n m [] u.fins t in
       let b = turned-times ring (from_least ring) (turned-least ring) t in
       let c = turned-times E.list u.fins E.turned t in
       omega (arith, s, a, b, c)
 
   fins_more : (t : Tag) → fins_with_edge R t ≡ (one_if (same_tag e t) + one_if (same_tag e t)) + fins_with_edge S t
-  fins_more t = let s = change.sums (λ x. cond (is_fin_of t x.1) 1 0) (count-edges t) in omega (arith, s)
+  fins_more t = let s = change.sums (λ x. cond (is_fin_of t x.1) 1 0) (edges-no_attribute t) in omega (arith, s)
 
   u_other : u.vertex ≢ w
   u_other h = let v = vertex_of_class (item_at S u.vertex) E.vertex_is in not_live w _ free.0 (ap (item_at S) (sym h) ∙ v.2)
 
   u_lone : loops_alone_at R u.vertex ≡ 0
   u_lone =
-      let s = change.sums (λ x. cond (is_alone_in u.vertex x.1) 1 0) (count-lone u.vertex) in
+      let s = change.sums (λ x. cond (is_alone_in u.vertex x.1) 1 0) (lone-no_attribute u.vertex) in
       omega (arith, s, end-alone_own S u E, E.alone)
 
   lone_same : (t : Tag) → t ≢ u.vertex → loops_alone_at R t ≡ loops_alone_at S t
   lone_same t other =
-      let s = change.sums (λ x. cond (is_alone_in t x.1) 1 0) (count-lone t) in
+      let s = change.sums (λ x. cond (is_alone_in t x.1) 1 0) (lone-no_attribute t) in
       omega (arith, s, end-alone_other S u E t other)
 
   -- ---- all

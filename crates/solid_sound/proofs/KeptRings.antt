@@ -1,9 +1,10 @@
 -- The rows that give a loop to another face keep soundness: mfkrh, kfmrh and ringmove.
-use Rattle.std.proofs.Common.{◌≡◌, ◌≢◌, ⊎_elim, Bool, true, false, not, List, [], ◌∷◌, Option, Some, None, Ok, refl, sym, ap, subst, ◌∙◌, arith}
+use Rattle.std.proofs.Common.{◌≡◌, ◌≢◌, ⊎_elim, false, not, List, [], ◌∷◌, Option, Some, None, Ok, refl, sym, ap, subst, ◌∙◌, arith}
 use Rattle.std.specs.Prelude.{ℤ, pos, ◌+ℤ◌, ◌-ℤ◌, option_map, unwrap_or}
 use Rattle.std.specs.Option.{option_and_then, option_map_or}
 use Rattle.std.specs.List.{AllByRecursion, sum_by}
 use Rattle.std.specs.FinMap.{put}
+use Rattle.std.proofs.lemmas.Bool.{not-false}
 use Rattle.std.proofs.lemmas.Option.{same_Some}
 use Rattle.pk_base.specs.Blocks.{tag}
 use Rattle.pk_base.specs.Entity.{same_tag}
@@ -231,10 +232,6 @@ face_in S well f shell outer e =
 pub in_face-is : (S : Shape) (l face a : Tag) (fins : List Tag) (vertex : Option Tag) → item_at S l ≡ Some (Loop face fins vertex) → in_face S l a ≡ Loop a fins vertex
 in_face-is S l face a fins vertex e = λ i. Loop a (option_map_or fins_of (e i) []) (option_and_then lone_of (e i))
 
-pub not_false : (b : Bool) → not b ≡ false → b ≡ true
-not_false true h = refl
-not_false false h = absurd (cc)
-
 -- ---- ringmove
 
 module _ (S : Shape) (well : IsWell S) (l face a shell outer : Tag) (fins : List Tag) (vertex : Option Tag)
@@ -315,5 +312,5 @@ ringmove-keeps S tags l a well = keeps-bind tags (loop_at S l) _ (λ r e. keeps-
     let y = asked_face S a (item_at S a) to k in
     let a_in = face_in S well a y.0 y.1 y.2 in
     let ring : l ≢ outer_at S x.0 = λ h. differs_means l r.outer (not_refused _ _ n) (h ∙ ap (λ (p : PlacedLoop). p.outer) x.4) in
-    let one_body : body_of S x.0 ≡ body_of S a = ap (λ (p : PlacedLoop). p.body) x.4 ∙ same_means r.body to.body (not_false (same_tag r.body to.body) (not_refused _ _ m)) ∙ sym y.4 ∙ a_in.owner_is ∙ sym a_in.face_body in
+    let one_body : body_of S x.0 ≡ body_of S a = ap (λ (p : PlacedLoop). p.body) x.4 ∙ same_means r.body to.body (not-false (same_tag r.body to.body) (not_refused _ _ m)) ∙ sym y.4 ∙ a_in.owner_is ∙ sym a_in.face_body in
     subst (λ (z : Item). IsWell (put tag_cmp l z S)) (sym (in_face-is S l x.0 a x.1 x.2 x.3)) (ring-moved S well l x.0 a y.0 y.1 x.1 x.2 x.3 y.2 ring one_body))))))

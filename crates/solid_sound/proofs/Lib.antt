@@ -10,6 +10,7 @@ pub mod Names
 pub mod Bodies
 pub mod Bones
 pub mod Numbers
+pub mod Attributes
 pub mod Changed
 pub mod EachItem
 pub mod RowKeeps

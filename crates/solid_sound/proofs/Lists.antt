@@ -1,8 +1,8 @@
 -- Cyclic lists of tags: their parts, their neighbours, and how often a tag stands in them.
-use Rattle.std.proofs.Common.{◌≡◌, ◌≢◌, ℕ, zero, suc, ◌+◌, ◌≤◌, ◌⊎◌, inl, inr, ⊎_elim, Bool, true, false, cond, List, [], ◌∷◌, ◌++◌, refl, sym, ap, subst, ◌∙◌, append-nil, arith}
+use Rattle.std.proofs.Common.{◌≡◌, ◌≢◌, ℕ, zero, suc, ◌+◌, ◌≤◌, ◌⊎◌, inl, inr, ⊎_elim, Bool, true, false, not, ◌||◌, cond, List, [], ◌∷◌, ◌++◌, refl, sym, ap, subst, ◌∙◌, append-nil, arith}
 use Rattle.std.specs.Prelude.{T, ◌&&◌, unwrap_or, map, Contains}
 use Rattle.std.specs.List.{count_by}
-use Rattle.std.proofs.lemmas.Bool.{true≢false, cases_Bool, or_left, or_right, or_cases}
+use Rattle.std.proofs.lemmas.Bool.{true≢false, cases_Bool, or_left, or_right, or_cases, or_parts, or_from, not-true, not_from_false}
 use Rattle.std.proofs.lemmas.List.Sums.{sum_by-cons, sum_by-append}
 use Rattle.std.proofs.lemmas.List.Elements.{Contains-append_right}
 use Rattle.pk_base.specs.Entity.{same_tag}
@@ -21,6 +21,12 @@ both_parts false b h = absurd h
 pub both_from : (a b : Bool) → T a → T b → T (a && b)
 both_from true b h k = k
 both_from false b h k = h
+
+pub neither_parts : (a b : Bool) → not (a || b) ≡ true → (a ≡ false) × (b ≡ false)
+neither_parts a b h = or_parts a b (not-true (a || b) h)
+
+pub neither_from : (a b : Bool) → a ≡ false → b ≡ false → not (a || b) ≡ true
+neither_from a b h k = not_from_false (a || b) (or_from a b h k)
 
 -- ---- elements
 

@@ -2,13 +2,14 @@
 use Rattle.std.proofs.Common.{◌≡◌, ◌≢◌, ◌+◌, ◌≤◌, ◌⊎◌, inl, inr, ⊎_elim, List, [], ◌∷◌, ◌++◌, sym, ap, subst, ◌∙◌, arith}
 use Rattle.std.specs.Prelude.{Contains}
 use Rattle.std.specs.List.{AllByRecursion}
-use Rattle.std.proofs.lemmas.List.Elements.{Contains-append_left, Contains-append_right, Contains-append_cases}
+use Rattle.std.proofs.lemmas.List.Elements.{Contains-append_left, Contains-append_right}
 use Rattle.pk_base.specs.Entity.{same_tag}
 use Rattle.pk_base.specs.declared.tag.Tag.{Tag}
 use Rattle.pk_model.specs.Apart.{NoRepeats}
 use Rattle.pk_model.proofs.TagLists.{ByRecursion-append, ByRecursion-at}
 use Rattle.solid_model.specs.Rings.{neighbours, neighbours_from}
 use Rattle.solid_sound.proofs.Lists.{one_if, times, times-cons, times-append, times-in, times-once, same_itself, contains_first, contains_later, neighbours_from-append}
+use Rattle.solid_sound.proofs.Cycles.{merge-first, merge-second, merge-cases}
 use Rattle.solid_sound.proofs.Turned.{chain_end, all_to_end}
 
 pub all-left : {A : Type 0} (P : A → Type 0) (xs ys : List A) → AllByRecursion P (xs ++ ys) → AllByRecursion P xs
@@ -40,16 +41,16 @@ module _ (f g n m : Tag) (ts us : List Tag) where
   second-is = neighbours_from-append g g us m []
 
   in_first : (x : Tag × Tag) → Contains (neighbours_from n f ts) x → Contains (neighbours first_part) x
-  in_first x k = subst (λ ns. Contains ns x) (sym first-is) (Contains-append_left (neighbours_from n f ts) ((n, f) ∷ []) x k)
+  in_first x k = merge-first f ts n [] x k
 
   in_second : (x : Tag × Tag) → Contains (neighbours_from m g us) x → Contains (neighbours second_part) x
-  in_second x k = subst (λ ns. Contains ns x) (sym second-is) (Contains-append_left (neighbours_from m g us) ((m, g) ∷ []) x k)
+  in_second x k = merge-first g us m [] x k
 
   pub parted-after_n : Contains {X = Tag × Tag} (neighbours first_part) (n, f)
-  parted-after_n = subst (λ ns. Contains {X = Tag × Tag} ns (n, f)) (sym first-is) (Contains-append_right {X = Tag × Tag} (neighbours_from n f ts) ((n, f) ∷ []) (n, f) (contains_first {X = Tag × Tag} (n, f) []))
+  parted-after_n = merge-second f ts n [] (n, f) (contains_first {X = Tag × Tag} (n, f) [])
 
   pub parted-after_m : Contains {X = Tag × Tag} (neighbours second_part) (m, g)
-  parted-after_m = subst (λ ns. Contains {X = Tag × Tag} ns (m, g)) (sym second-is) (Contains-append_right {X = Tag × Tag} (neighbours_from m g us) ((m, g) ∷ []) (m, g) (contains_first {X = Tag × Tag} (m, g) []))
+  parted-after_m = merge-second g us m [] (m, g) (contains_first {X = Tag × Tag} (m, g) [])
 
   -- a tag of the one list is neither f nor g
   not_first : NoRepeats whole → (q : Tag) → Contains (ts ++ g ∷ us) q → q ≢ f
@@ -87,7 +88,7 @@ module _ (f g n m : Tag) (ts us : List Tag) where
       (λ (a : (q ≡ f) × Contains {X = Tag × Tag} (neighbours_from m g us) (p, m)). inr (inl (a.0, in_second (p, m) a.1)))
       (λ (a : Contains us q × Contains {X = Tag × Tag} (neighbours_from m g us) (p, q)). let other = in_us once q a.0 in inr (inr (other.0, other.1, inr (in_second (p, q) a.1))))
       (chain_end f m g us p q r))
-      (Contains-append_cases (neighbours_from g f ts) (neighbours_from f g us) (p, q) (subst (λ ns. Contains {X = Tag × Tag} ns (p, q)) whole-is k))
+      (merge-cases f ts g us (p, q) k)
 
   pub first-all : (P : Tag × Tag → Type 0) → P (n, f) → ((p : Tag) → P (p, g) → P (p, n)) → AllByRecursion P (neighbours whole) → AllByRecursion P (neighbours first_part)
   first-all P last h all = subst (AllByRecursion P) (sym first-is) (ByRecursion-append P (neighbours_from n f ts) ((n, f) ∷ [])

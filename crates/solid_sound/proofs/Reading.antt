@@ -18,6 +18,7 @@ use Rattle.pk_base.specs.Blocks.{tag}
 use Rattle.pk_base.specs.Entity.{same_tag}
 use Rattle.pk_base.specs.declared.tag.Tag.{Tag}
 use Rattle.pk_base.specs.declared.entity.Entity.{Entity}
+use Rattle.pk_base.specs.declared.entity.Point.{Point}
 use Rattle.pk_base.specs.declared.entity.Class.TheVariants as class
 use Rattle.pk_model.specs.Apart.{NoRepeats}
 use Rattle.pk_model.specs.Maps.{tag_cmp}
@@ -192,6 +193,17 @@ fin_of_class (Some (Loop face fins vertex)) h = absurd (cc)
 fin_of_class (Some (Edge body)) h = absurd (cc)
 fin_of_class (Some (Vertex body point)) h = absurd (cc)
 fin_of_class (Some (Attr owner name value)) h = absurd (cc)
+
+pub vertex_of_class : (o : Option Item) → option_map class_of_item o ≡ Some class.Vertex → (body : Tag) × (point : Point) × (o ≡ Some (Vertex body point))
+vertex_of_class None h = absurd (cc)
+vertex_of_class (Some (Vertex body point)) h = (body, point, refl)
+vertex_of_class (Some (Body shell)) h = absurd (cc)
+vertex_of_class (Some (Shell body q)) h = absurd (cc)
+vertex_of_class (Some (Face shell outer)) h = absurd (cc)
+vertex_of_class (Some (Loop face fins vertex)) h = absurd (cc)
+vertex_of_class (Some (Fin mate edge vertex)) h = absurd (cc)
+vertex_of_class (Some (Edge body)) h = absurd (cc)
+vertex_of_class (Some (Attr owner name value)) h = absurd (cc)
 
 module _ (S : Shape) (written : IsWritten S) (sound : IsSoundShape S) where
   module _ (l face : Tag) (fins : List Tag) (vertex : Option Tag) (is : item_at S l ≡ Some (Loop face fins vertex)) where
