@@ -10,8 +10,16 @@ use std::test::Fail;
 
 const REFUSED: &[u8] = b"session 1 1\nthread\nlock 1\n1 goto 65\nend\n";
 
-const REFUSED_REPORT: &[u8] =
-    b"report 1 1\nthread 1\n3 locked\n4 refused 19 NotAMark 65\n5 ended 1\npartition 1\nclaimed 1\ndid 1 goto 65\nreleased 1\nend\n";
+const REFUSED_REPORT: &[u8] = b"report 1 1\n\
+      thread 1\n\
+      3 locked\n\
+      4 refused 19 NotAMark 65\n\
+      5 ended 1\n\
+      partition 1\n\
+      claimed 1\n\
+      did 1 goto 65\n\
+      released 1\n\
+      end\n";
 
 /// Starts the program with these words, the first of which is its name, and keeps what standard
 /// error is told.

@@ -12,8 +12,24 @@ mod rows;
 const FIRST: &[u8] =
     b"session 1 1\nthread\nlock 1\n1 mvfs 0 0 0\n1 mark\n1 mvfs 1 0 0\n1 goto 70\n1 goto 64\nend\n";
 
-const FIRST_REPORT: &[u8] =
-    b"report 1 1\nthread 1\n3 locked\n4 made 65-69\n5 made 70\n6 made 71-75\n7 went fresh - gone 71-75 changed -\n8 went fresh - gone 65-69 changed -\n9 ended 1\npartition 1\nclaimed 1\ndid 1 mvfs 0 0 0\ndid 1 mark\ndid 1 mvfs 1 0 0\ndid 1 goto 70\ndid 1 goto 64\nreleased 1\nend\n";
+const FIRST_REPORT: &[u8] = b"report 1 1\n\
+      thread 1\n\
+      3 locked\n\
+      4 made 65-69\n\
+      5 made 70\n\
+      6 made 71-75\n\
+      7 went fresh - gone 71-75 changed -\n\
+      8 went fresh - gone 65-69 changed -\n\
+      9 ended 1\n\
+      partition 1\n\
+      claimed 1\n\
+      did 1 mvfs 0 0 0\n\
+      did 1 mark\n\
+      did 1 mvfs 1 0 0\n\
+      did 1 goto 70\n\
+      did 1 goto 64\n\
+      released 1\n\
+      end\n";
 
 const NOT_BUILT: Cause = Cause::NotBuilt;
 
@@ -87,18 +103,46 @@ fn runs_the_examples(rt: HostRuntime) -> Result<(), Fail> {
 #[test]
 fn goes_to_the_initial_mark_at_once(rt: HostRuntime) -> Result<(), Fail> {
     let script = b"session 1 1\nthread\nlock 1\n1 goto 64\nend\n";
-    let report =
-        b"report 1 1\nthread 1\n3 locked\n4 went fresh - gone - changed -\n5 ended 1\npartition 1\nclaimed 1\ndid 1 goto 64\nreleased 1\nend\n";
+    let report = b"report 1 1\n\
+          thread 1\n\
+          3 locked\n\
+          4 went fresh - gone - changed -\n\
+          5 ended 1\n\
+          partition 1\n\
+          claimed 1\n\
+          did 1 goto 64\n\
+          released 1\n\
+          end\n";
     assert_eq!(rt; status_of(&rt, rt.alloc(), script, report)?, Status::Done);
     Ok(())
 }
 
 #[test]
 fn refuses_and_goes_on(rt: HostRuntime) -> Result<(), Fail> {
-    let script =
-        b"session 1 1\nthread\nlock 1\n1 mvfs 1048577 0 0\n1 goto 128\n1 mvfs 0 0 0\n1 goto 65\nend\n";
-    let report =
-        b"report 1 1\nthread 1\n3 locked\n4 refused 3 OutOfRange 1048577\n5 refused 18 NotOurs 128\n6 made 65-69\n7 refused 19 NotAMark 65\n8 ended 1\npartition 1\nclaimed 1\ndid 1 mvfs 1048577 0 0\ndid 1 goto 128\ndid 1 mvfs 0 0 0\ndid 1 goto 65\nreleased 1\nend\n";
+    let script = b"session 1 1\n\
+          thread\n\
+          lock 1\n\
+          1 mvfs 1048577 0 0\n\
+          1 goto 128\n\
+          1 mvfs 0 0 0\n\
+          1 goto 65\n\
+          end\n";
+    let report = b"report 1 1\n\
+          thread 1\n\
+          3 locked\n\
+          4 refused 3 OutOfRange 1048577\n\
+          5 refused 18 NotOurs 128\n\
+          6 made 65-69\n\
+          7 refused 19 NotAMark 65\n\
+          8 ended 1\n\
+          partition 1\n\
+          claimed 1\n\
+          did 1 mvfs 1048577 0 0\n\
+          did 1 goto 128\n\
+          did 1 mvfs 0 0 0\n\
+          did 1 goto 65\n\
+          released 1\n\
+          end\n";
     assert_eq!(rt;
         status_of(&rt, rt.alloc(), script, report)?,
         Status::SomeRefused
