@@ -1,6 +1,2 @@
-mod FoundParts
-mod Killed
-mod MayPerform
+mod PlainCalls
 mod Performing
-mod Puts
-mod Taken

@@ -1,56 +1,154 @@
--- What is performed, by the operator of the call.
-use Rattle.std.proofs.Common.{◌≡◌, ◌+◌, List, Option, Some, None, Result, Ok, Err, take, refl, sym, ap, subst, ◌∙◌, arith}
-use Rattle.std.specs.Prelude.{ℤ, IsOk, IsOkAnd}
-use Rattle.pk_base.specs.declared.act.Reply.TheVariants.{Made, Done}
+-- What is performed of a call that is done, from what its own function asks and promises.
+use Rattle.std.proofs.Common.{◌≡◌, ℕ, zero, suc, ◌+◌, ◌≤◌, Bool, true, false, cond, List, [], ◌∷◌, ◌++◌, length, take, Ok, Err, refl, sym, ap, subst, ◌∙◌, arith}
+use Rattle.std.specs.Prelude.{IsOk, IsTrue}
+use Rattle.std.specs.List.{AllByRecursion}
+use Rattle.pk_base.specs.Building.{Building}
+use Rattle.pk_base.specs.declared.act.Reply.{Reply}
+use Rattle.pk_base.specs.declared.act.Reply.TheVariants.{Made}
 use Rattle.pk_base.specs.declared.call.Call.{Call}
-use Rattle.pk_base.specs.declared.entity.Triple.{Triple}
-use Rattle.pk_base.specs.declared.refusal.Refusal.{Refusal}
 use Rattle.pk_base.specs.declared.tag.Tag.{Tag}
 use Rattle.pk_model.specs.Maps.{EntityMap}
 use Rattle.pk_model.specs.Modelling.{Outcome}
-use Rattle.pk_model.specs.VertexBodies.{first_outside, mvfs, mvfs_cost, mvfs_step}
-use Rattle.entity_store.specs.Modeller.{Performs}
+use Rattle.pk_model.specs.Tags.{owns}
+use Rattle.entity_store.specs.Modeller.{MayPerform, Performs}
 use Rattle.entity_store.specs.NextTags.{TagsView, left}
 use Rattle.entity_store.specs.Recorder.{Records}
+use Rattle.entity_store.specs.Recording.{room_left}
 use Rattle.entity_store.specs.Store.{StoreView}
-use Rattle.modeller.specs.VertexBodyMaps.{HasVertexBodies}
-use Rattle.modeller.specs.Kvfs.{kvfs}
-use Rattle.modeller.specs.Euler.{euler, operator_of, step_by, cost_by, changes_by}
-use Rattle.modeller.specs.SoundMaps.{killed_body}
-use Rattle.modeller.specs.declared.euler.Operator.TheVariants as operator
+use Rattle.solid_model.specs.Items.{Shape}
+use Rattle.solid_model.specs.Rows.{Row}
+use Rattle.solid_model.specs.Rows.Effect.{Makes, Changes, Tells}
+use Rattle.solid_model.specs.Links.{links}
+use Rattle.solid_model.specs.Shapes.{shape_of}
+use Rattle.solid_model.specs.Room.{puts_of}
+use Rattle.solid_model.specs.Euler as all
+use Rattle.solid_model.specs.Euler.{cost_of, list_of, outcome_of, step_by}
+use Rattle.solid_calls.specs.Pairs.{HasDone, HasTags, MayDo, Takes, reached, row_on}
+use Rattle.solid_calls.proofs.NextTags.{takes-none}
+use Rattle.modeller.specs.Euler.{euler, is_done}
+use Rattle.modeller.specs.EulerLaws.{no_call}
+use Rattle.modeller.specs.Replies.{reply_of}
+use Rattle.solid_calls.proofs.RowKinds.{IsChanging, IsMaking, IsPlain, cost-changing, cost-making}
 
-inside_of : (m : EntityMap) (at : Triple) (tags : List Tag) (outside : Option ℤ) → IsOk (mvfs_step m at tags outside) → outside ≡ None
-inside_of m at tags None h = refl
-inside_of m at tags (Some v) h = absurd (cc)
+-- ---- what is asked
 
-pub performs_mvfs : (old new : StoreView) (call : Call) (at : Triple) (tags tags' : TagsView) (made : List Tag) → operator_of call ≡ Some (operator.Mvfs at) → IsOk (euler.step old.state.map call (left tags)) → new.state ≡ record old.state { map = (mvfs old.state.map at (left tags)).map } → Records 5 old new → tags' ≡ record tags { used = tags.used + 5 } → made ≡ take 5 (left tags) → Performs euler old call tags (Made made) new tags'
-performs_mvfs old new call at tags tags' made is goes state records takes lists =
+row-goes : (m : EntityMap) (tags : List Tag) (row : Row) → IsOk (step_by m tags row) → IsOk row
+row-goes m tags (Ok effect) h = refl
+row-goes m tags (Err e) h = absurd (cc)
+
+-- the call that is performed is done: any other is refused
+pub done-goes : (s : StoreView) (c : Call) (tags : TagsView) (out : Building Tag) → MayPerform euler s c tags out → is_done c ≡ true
+done-goes s c tags out may = from_goes (is_done c) may.goes
+  where
+    from_goes : (b : Bool) → IsOk (cond b (all.euler.step s.state.map c (left tags)) no_call) → b ≡ true
+    from_goes true h = refl
+    from_goes false h = absurd (cc)
+
+module _ (s : StoreView) (c : Call) (tags : TagsView) (out : Building Tag) (may : MayPerform euler s c tags out) where
+  is : is_done c ≡ true
+  is = done-goes s c tags out may
+
+  goes : IsOk (row_on s.state.map c)
+  goes = row-goes s.state.map (left tags) (row_on s.state.map c) (subst (λ b. IsOk (cond b (all.euler.step s.state.map c (left tags)) no_call)) is may.goes)
+
+  pub may-do : MayDo s c
+  may-do = record {
+    sound = may.asked.sound;
+    goes = goes;
+    room = subst (λ b. cond b (puts_of (shape_of s.state.map) c) 0 ≤ room_left s.recording) is may.changes;
+  }
+
+  list-cost : (row : Row) → cost_of row ≤ list_of row
+  list-cost (Ok (Makes k reaches)) = omega arith
+  list-cost (Ok (Changes other)) = omega arith
+  list-cost (Ok (Tells reply)) = omega arith
+  list-cost (Err e) = omega arith
+
+  pub has-tags : HasTags s (cost_of (row_on s.state.map c)) tags out
+  has-tags =
+      let listed = subst (λ b. cond b (list_of (row_on s.state.map c)) 0 ≤ out.spare) is may.list in
+      record {
+        enough = subst (λ b. cond b (cost_of (row_on s.state.map c)) 0 ≤ length (left tags)) is may.asked.enough;
+        ascend = may.asked.ascend;
+        free = may.asked.free;
+        owned = subst (λ b. AllByRecursion (λ t. IsTrue (owns s.state.blocks t)) (take (cond b (cost_of (row_on s.state.map c)) 0) (left tags))) is may.owned;
+        spare = omega (arith, list-cost (row_on s.state.map c), listed);
+      }
+
+-- ---- what is done
+
+length-taken : (n : ℕ) (ts : List Tag) → n ≤ length ts → 1 ≤ n → reply_of (take n ts) ≡ Made (take n ts)
+length-taken n [] h some = absurd (omega arith)
+length-taken n (t ∷ ts) h some = some_taken n t ts some
+  where
+    some_taken : (n : ℕ) (t : Tag) (ts : List Tag) → 1 ≤ n → reply_of (take n (t ∷ ts)) ≡ Made (take n (t ∷ ts))
+    some_taken zero t ts h = absurd (omega arith)
+    some_taken (suc n) t ts h = refl
+
+-- the outcome of the row is the map that it reaches, and the tags that it takes
+outcome-is : (m : EntityMap) (tags : List Tag) (row : Row) → IsPlain row → IsOk row → cost_of row ≤ length tags
+    → step_by m tags row ≡ Ok (record { map = links (reached (shape_of m) tags row); reply = reply_of (take (cost_of row) tags) })
+outcome-is m tags (Ok (Makes k reaches)) plain goes enough = ap (λ (r : Reply). Ok (record { map = links (reaches tags); reply = r })) (sym (length-taken k tags enough plain))
+outcome-is m tags (Ok (Changes other)) plain goes enough = refl
+outcome-is m tags (Ok (Tells reply)) plain goes enough = absurd plain
+outcome-is m tags (Err e) plain goes enough = absurd (cc)
+
+pub performs : (old new : StoreView) (c : Call) (tags tags' : TagsView) (out out' : Building Tag) (reply : Reply) → MayPerform euler old c tags out → IsPlain (row_on old.state.map c)
+    → HasDone old c (left tags) new → Takes (cost_of (row_on old.state.map c)) tags out tags' out' → reply ≡ reply_of out'.items → Performs euler old c tags reply new tags'
+performs old new c tags tags' out out' reply may plain done takes replies =
     let m = old.state.map in
-    let inside : first_outside at ≡ None = inside_of m at (left tags) (first_outside at) (subst (λ o. IsOk (step_by m (left tags) o)) is goes) in
-    let cost : cost_by (operator_of call) ≡ 5 = ap cost_by is ∙ ap mvfs_cost inside in
-    record {
-      outcome = mvfs m at (left tags);
-      steps = ap (step_by m (left tags)) is ∙ ap (mvfs_step m at (left tags)) inside;
-      replies = ap (λ ts. Made ts) lists;
-      state = state;
-      takes = takes ∙ ap (λ n. record tags { used = tags.used + n }) (sym cost);
-      records = subst (λ n. Records n old new) (sym (ap changes_by is ∙ ap mvfs_cost inside)) records;
-    }
-
-kvfs_performed : (old new : StoreView) (call : Call) (body : Tag) (tags : TagsView) → operator_of call ≡ Some (operator.Kvfs body) → HasVertexBodies old.state.map → (r : Result Outcome Refusal) → kvfs old.state.map body ≡ r → IsOkAnd r (λ o. new.state ≡ record old.state { map = o.map }) → Records 5 old new → Performs euler old call tags Done new tags
-kvfs_performed old new call body tags is sound (Ok o) gives state records =
-    let m = old.state.map in
-    let none : tags.used ≡ tags.used + 0 = omega arith in
-    let cost : cost_by (operator_of call) ≡ 0 = ap cost_by is in
+    let row = row_on m c in
+    let asked = has-tags old c tags out may in
+    let is = done-goes old c tags out may in
+    let o : Outcome = record { map = links (reached (shape_of m) (left tags) row); reply = reply_of (take (cost_of row) (left tags)) } in
     record {
       outcome = o;
-      steps = ap (step_by m (left tags)) is ∙ gives;
-      replies = ap (λ (x : Outcome). x.reply) (killed_body m sound body o gives).3;
-      state = state;
-      takes = ap (λ n. record tags { used = n }) none ∙ ap (λ n. record tags { used = tags.used + n }) (sym cost);
-      records = subst (λ n. Records n old new) (sym (ap changes_by is)) records;
+      steps = subst (λ b. cond b (all.euler.step m c (left tags)) no_call ≡ Ok o) (sym is) (outcome-is m (left tags) row plain (may-do old c tags out may).goes asked.enough);
+      replies = replies ∙ ap reply_of (takes.lists ∙ ap (λ ts. ts ++ take (cost_of row) (left tags)) may.empty);
+      state = done.state;
+      takes = subst (λ b. tags' ≡ record tags { used = tags.used + cond b (cost_of row) 0 }) (sym is) takes.taken;
+      records = subst (λ b. Records (cond b (puts_of (shape_of m) c) 0) old new) (sym is) done.records;
     }
-kvfs_performed old new call body tags is sound (Err e) gives state records = absurd state
 
-pub performs_kvfs : (old new : StoreView) (call : Call) (body : Tag) (tags : TagsView) → operator_of call ≡ Some (operator.Kvfs body) → HasVertexBodies old.state.map → IsOkAnd (kvfs old.state.map body) (λ o. new.state ≡ record old.state { map = o.map }) → Records 5 old new → Performs euler old call tags Done new tags
-performs_kvfs old new call body tags is sound state records = kvfs_performed old new call body tags is sound (kvfs old.state.map body) refl state records
+reached-changing : (S : Shape) (tags other : List Tag) (row : Row) → IsChanging row → reached S tags row ≡ reached S other row
+reached-changing S tags other (Ok (Makes k reaches)) h = absurd h
+reached-changing S tags other (Ok (Changes o)) h = refl
+reached-changing S tags other (Ok (Tells reply)) h = absurd h
+reached-changing S tags other (Err e) h = refl
+
+-- ---- a call, as its own function has it
+
+module _ (c d : Call) (is : c ≡ d) where
+  pub may-as : (s : StoreView) → MayDo s c → MayDo s d
+  may-as s may = subst (MayDo s) is may
+
+  pub tags-making : (k : ℕ) (s : StoreView) (tags : TagsView) (out : Building Tag) → IsMaking k (row_on s.state.map d) → MayDo s c → HasTags s (cost_of (row_on s.state.map c)) tags out → HasTags s k tags out
+  tags-making k s tags out making may has =
+      let cost : cost_of (row_on s.state.map c) ≡ k = ap (λ x. cost_of (row_on s.state.map x)) is ∙ cost-making k (row_on s.state.map d) making (may-as s may).goes in
+      subst (λ n. HasTags s n tags out) cost has
+
+  pub done-as : (old new : StoreView) (tags : List Tag) → HasDone old d tags new → HasDone old c tags new
+  done-as old new tags done = subst (λ x. HasDone old x tags new) (sym is) done
+
+  pub takes-making : (k : ℕ) (s : StoreView) (tags tags' : TagsView) (out out' : Building Tag) → IsMaking k (row_on s.state.map d) → MayDo s c → Takes k tags out tags' out' → Takes (cost_of (row_on s.state.map c)) tags out tags' out'
+  takes-making k s tags tags' out out' making may takes =
+      let cost : cost_of (row_on s.state.map c) ≡ k = ap (λ x. cost_of (row_on s.state.map x)) is ∙ cost-making k (row_on s.state.map d) making (may-as s may).goes in
+      subst (λ n. Takes n tags out tags' out') (sym cost) takes
+
+  pub done-changing : (old new : StoreView) (tags : List Tag) → IsChanging (row_on old.state.map d) → HasDone old d [] new → HasDone old c tags new
+  done-changing old new tags changing done = done-as old new tags (record {
+    state = done.state ∙ ap (λ S. record old.state { map = links S }) (reached-changing (shape_of old.state.map) [] tags (row_on old.state.map d) changing);
+    sound = done.sound;
+    records = done.records;
+  })
+
+  pub takes-changing : (m : EntityMap) (tags : TagsView) (out : Building Tag) → IsChanging (row_on m d) → Takes (cost_of (row_on m c)) tags out tags out
+  takes-changing m tags out changing =
+      let cost : cost_of (row_on m c) ≡ 0 = ap (λ x. cost_of (row_on m x)) is ∙ cost-changing (row_on m d) changing in
+      subst (λ n. Takes n tags out tags out) (sym cost) (takes-none tags out)
+
+  pub tags-as : (s : StoreView) (tags : TagsView) (out : Building Tag) → HasTags s (cost_of (row_on s.state.map c)) tags out → HasTags s (cost_of (row_on s.state.map d)) tags out
+  tags-as s tags out has = subst (λ x. HasTags s (cost_of (row_on s.state.map x)) tags out) is has
+
+  pub takes-as : (m : EntityMap) (tags tags' : TagsView) (out out' : Building Tag) → Takes (cost_of (row_on m d)) tags out tags' out' → Takes (cost_of (row_on m c)) tags out tags' out'
+  takes-as m tags tags' out out' takes = subst (λ x. Takes (cost_of (row_on m x)) tags out tags' out') (sym is) takes

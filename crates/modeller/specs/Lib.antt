@@ -1,9 +1,5 @@
--- In reading order. The last three are lemmas: the proof of a trait's law may not name `proofs`.
-pub mod VertexBodyMaps
-pub mod Kills
-pub mod Kvfs
-pub mod Parts
+-- In reading order.
+pub mod Only
 pub mod Euler
-pub mod FoundEntries
-pub mod SoundMaps
+pub mod Replies
 pub mod EulerLaws

@@ -1,13 +1,7 @@
-//! `Euler`, the modeller that carries the Euler operators out (Mäntylä, An Introduction to Solid
-//! Modeling, 1988). Those that it does today are `mvfs` and `kvfs`, which make and kill a body of
-//! one vertex.
+//! `Euler`, the modeller that carries the calls on solids out (Mäntylä, An Introduction to Solid
+//! Modeling, 1988).
 #![tactic(auto)]
 
 pub use euler::{Euler, is_done};
 
 mod euler;
-mod kvfs;
-mod mvfs;
-mod parts;
-#[cfg(test)]
-mod tests;

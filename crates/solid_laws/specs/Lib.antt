@@ -6,4 +6,3 @@ pub mod WorkedBlocks
 pub mod WorkedPolygons
 pub mod BlockForm
 pub mod Unsound
-pub mod Today

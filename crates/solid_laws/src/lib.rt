@@ -3,12 +3,10 @@
 #![tactic(auto)]
 
 pub use sound::what_is_not_sound;
-pub use today::{today_is_a_part_of_all_calls, today_stays_within_the_limit};
 pub use worked::{
     worked_block, worked_hole, worked_largest_prism, worked_limits, worked_plate, worked_queries,
     worked_rings, worked_triangle,
 };
 
 mod sound;
-mod today;
 mod worked;

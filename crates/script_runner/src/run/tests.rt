@@ -207,8 +207,8 @@ fn a_line_that_is_not_carried_out_yet_writes_nothing(rt: HostRuntime) -> Result<
     for (lines, line) in [
         ("1 bodies\nend\n", 3),
         ("lock 1\n1 block 0 0 0 2 3 4\n1 mark\nend\n", 4),
-        ("lock 1\n1 mvfs 0 0 0\n1 set 65 colour 7\nend\n", 5),
-        ("lock 1\n1 mvfs 0 0 0 as b\n1 mev b.3 1 0 0\nend\n", 5),
+        ("lock 1\n1 mvfs 0 0 0\n1 move 65 1 0 0\nend\n", 5),
+        ("lock 1\n1 mvfs 0 0 0 as b\n1 sweep b.2 0 0 1\nend\n", 5),
         ("lock 1\nend\nthread\n1 ask 65\nend\n", 6),
         ("2 kids 65\n1 ring 65\nend\nthread\n1 ask 65\nend\n", 3),
     ] {

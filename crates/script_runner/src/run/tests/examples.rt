@@ -2,7 +2,7 @@
 use crate::Status;
 
 /// A script, its report, and how its run ends.
-pub const EXAMPLES: [(&str, &str, Status); 11] = [
+pub const EXAMPLES: [(&str, &str, Status); 12] = [
     (BRANCHES_SCRIPT, BRANCHES_REPORT, Status::Done),
     (UNDO_SCRIPT, UNDO_REPORT, Status::Done),
     (REFUSALS_SCRIPT, REFUSALS_REPORT, Status::SomeRefused),
@@ -14,6 +14,7 @@ pub const EXAMPLES: [(&str, &str, Status); 11] = [
     (ORDER_SCRIPT, ORDER_REPORT, Status::SomeRefused),
     (SPENT_SCRIPT, SPENT_REPORT, Status::SomeRefused),
     (DESIGNERS_SCRIPT, DESIGNERS_REPORT, Status::Done),
+    (TRIANGLE_SCRIPT, TRIANGLE_REPORT, Status::Done),
 ];
 
 const BRANCHES_SCRIPT: &str = "session 1 1\n\
@@ -474,4 +475,87 @@ const DESIGNERS_REPORT: &str = "report 2 8\n\
      did 2 unmark 134\n\
      did 2 marks\n\
      released 2\n\
+     end\n";
+
+const TRIANGLE_SCRIPT: &str = "session 1 10\n\
+     thread\n\
+     lock 1\n\
+     1 mvfs 0 0 0\n\
+     1 mev 68 4 0 0\n\
+     1 mev 73 0 4 0\n\
+     1 mef 72 77\n\
+     1 mark\n\
+     1 mev 73 1 1 0\n\
+     1 kemr 86\n\
+     1 mev 88 2 1 0\n\
+     1 mev 92 1 2 0\n\
+     1 mef 91 96\n\
+     1 mark\n\
+     1 kfmrh 78 97\n\
+     1 mark\n\
+     1 mfkrh 98\n\
+     1 goto 83\n\
+     1 goto 103\n\
+     1 goto 102\n\
+     1 goto 83\n\
+     1 kef 81\n\
+     1 kev 76\n\
+     1 kev 72\n\
+     1 kvfs 65\n\
+     1 goto 83\n\
+     end\n";
+
+const TRIANGLE_REPORT: &str = "report 1 10\n\
+     thread 1\n\
+     3 locked\n\
+     4 made 65-69\n\
+     5 made 70-73\n\
+     6 made 74-77\n\
+     7 made 78-82\n\
+     8 made 83\n\
+     9 made 84-87\n\
+     10 made 88\n\
+     11 made 89-92\n\
+     12 made 93-96\n\
+     13 made 97-101\n\
+     14 made 102\n\
+     15 done\n\
+     16 made 103\n\
+     17 made 104\n\
+     18 went fresh - gone 84 88-96 98-101 104 changed -\n\
+     19 went fresh 84 88-96 98-101 gone - changed 66\n\
+     20 went fresh 97 gone - changed 66 98\n\
+     21 went fresh - gone 84 88-101 changed -\n\
+     22 done\n\
+     23 done\n\
+     24 done\n\
+     25 done\n\
+     26 went fresh 65-82 gone - changed -\n\
+     27 ended 1\n\
+     partition 1\n\
+     claimed 1\n\
+     did 1 mvfs 0 0 0\n\
+     did 1 mev 68 4 0 0\n\
+     did 1 mev 73 0 4 0\n\
+     did 1 mef 72 77\n\
+     did 1 mark\n\
+     did 1 mev 73 1 1 0\n\
+     did 1 kemr 86\n\
+     did 1 mev 88 2 1 0\n\
+     did 1 mev 92 1 2 0\n\
+     did 1 mef 91 96\n\
+     did 1 mark\n\
+     did 1 kfmrh 78 97\n\
+     did 1 mark\n\
+     did 1 mfkrh 98\n\
+     did 1 goto 83\n\
+     did 1 goto 103\n\
+     did 1 goto 102\n\
+     did 1 goto 83\n\
+     did 1 kef 81\n\
+     did 1 kev 76\n\
+     did 1 kev 72\n\
+     did 1 kvfs 65\n\
+     did 1 goto 83\n\
+     released 1\n\
      end\n";

@@ -1,9 +1,10 @@
 // Scripts whose answers and journals were worked out by hand: refusals of marks, a mark that is
-// deleted between others, branches, and a block that is drawn.
+// deleted between others, branches, a block that is drawn, rings made and unmade, a triangle with
+// every operator refused once on the way, and an attribute that is set back.
 use crate::Status;
 
 /// A script, its report, and how its run ends.
-pub const ROWS: [(&str, &str, Status); 5] = [
+pub const ROWS: [(&str, &str, Status); 8] = [
     (
         GOTO_REFUSALS_SCRIPT,
         GOTO_REFUSALS_REPORT,
@@ -13,6 +14,9 @@ pub const ROWS: [(&str, &str, Status); 5] = [
     (INITIAL_AT_ONCE_SCRIPT, INITIAL_AT_ONCE_REPORT, Status::Done),
     (TWO_BRANCHES_SCRIPT, TWO_BRANCHES_REPORT, Status::Done),
     (SECOND_BLOCK_SCRIPT, SECOND_BLOCK_REPORT, Status::Done),
+    (RINGS_SCRIPT, RINGS_REPORT, Status::SomeRefused),
+    (TRIANGLE_SCRIPT, TRIANGLE_REPORT, Status::SomeRefused),
+    (ATTRIBUTE_SCRIPT, ATTRIBUTE_REPORT, Status::Done),
 ];
 
 const GOTO_REFUSALS_SCRIPT: &str = "session 2 10\n\
@@ -221,5 +225,158 @@ const SECOND_BLOCK_REPORT: &str = "report 1 10\n\
      did 1 mvfs 11 0 0\n\
      drew 1 2\n\
      did 1 mvfs 12 0 0\n\
+     released 1\n\
+     end\n";
+
+const RINGS_SCRIPT: &str = "session 1 10\n\
+     thread\n\
+     lock 1\n\
+     1 mvfs 0 0 0\n\
+     1 mev 68 1 0 0\n\
+     1 kemr 72\n\
+     1 mekr 68 74\n\
+     1 kemr 76\n\
+     1 mfkrh 78\n\
+     1 kfmrh 67 79\n\
+     1 mekr 78 68\n\
+     1 ringmove 78 67\n\
+     1 mfkrh 68\n\
+     end\n";
+
+const RINGS_REPORT: &str = "report 1 10\n\
+     thread 1\n\
+     3 locked\n\
+     4 made 65-69\n\
+     5 made 70-73\n\
+     6 made 74\n\
+     7 made 75-77\n\
+     8 made 78\n\
+     9 made 79\n\
+     10 done\n\
+     11 refused 10 IsOuter 68\n\
+     12 refused 28 SameFace 67\n\
+     13 refused 10 IsOuter 68\n\
+     14 ended 1\n\
+     partition 1\n\
+     claimed 1\n\
+     did 1 mvfs 0 0 0\n\
+     did 1 mev 68 1 0 0\n\
+     did 1 kemr 72\n\
+     did 1 mekr 68 74\n\
+     did 1 kemr 76\n\
+     did 1 mfkrh 78\n\
+     did 1 kfmrh 67 79\n\
+     did 1 mekr 78 68\n\
+     did 1 ringmove 78 67\n\
+     did 1 mfkrh 68\n\
+     released 1\n\
+     end\n";
+
+const TRIANGLE_SCRIPT: &str = "session 1 10\n\
+     thread\n\
+     lock 1\n\
+     1 mvfs 0 0 0\n\
+     1 mev 68 1 0 0\n\
+     1 mev 73 1 1 0\n\
+     1 mef 72 72\n\
+     1 kev 72\n\
+     1 kef 72\n\
+     1 mef 72 77\n\
+     1 mef 72 73\n\
+     1 mekr 73 72\n\
+     1 kemr 81\n\
+     1 mev 68 5 5 5\n\
+     1 kvfs 65\n\
+     1 mfkrh 68\n\
+     1 kfmrh 67 67\n\
+     1 kef 65\n\
+     1 kef 81\n\
+     1 kev 76\n\
+     1 kev 72\n\
+     1 kvfs 65\n\
+     end\n";
+
+const TRIANGLE_REPORT: &str = "report 1 10\n\
+     thread 1\n\
+     3 locked\n\
+     4 made 65-69\n\
+     5 made 70-73\n\
+     6 made 74-77\n\
+     7 refused 5 SameVertex 69\n\
+     8 refused 6 NotStrut 72\n\
+     9 refused 7 OneLoop 68\n\
+     10 made 78-82\n\
+     11 refused 4 NotOneLoop 79 68\n\
+     12 refused 11 NotOneFace 67 78\n\
+     13 refused 8 TwoLoops 79 68\n\
+     14 refused 13 NotBare 68\n\
+     15 refused 13 NotBare 65\n\
+     16 refused 10 IsOuter 68\n\
+     17 refused 28 SameFace 67\n\
+     18 refused 2 WrongClass 65 body\n\
+     19 done\n\
+     20 done\n\
+     21 done\n\
+     22 done\n\
+     23 ended 1\n\
+     partition 1\n\
+     claimed 1\n\
+     did 1 mvfs 0 0 0\n\
+     did 1 mev 68 1 0 0\n\
+     did 1 mev 73 1 1 0\n\
+     did 1 mef 72 72\n\
+     did 1 kev 72\n\
+     did 1 kef 72\n\
+     did 1 mef 72 77\n\
+     did 1 mef 72 73\n\
+     did 1 mekr 73 72\n\
+     did 1 kemr 81\n\
+     did 1 mev 68 5 5 5\n\
+     did 1 kvfs 65\n\
+     did 1 mfkrh 68\n\
+     did 1 kfmrh 67 67\n\
+     did 1 kef 65\n\
+     did 1 kef 81\n\
+     did 1 kev 76\n\
+     did 1 kev 72\n\
+     did 1 kvfs 65\n\
+     released 1\n\
+     end\n";
+
+const ATTRIBUTE_SCRIPT: &str = "session 1 10\n\
+     thread\n\
+     lock 1\n\
+     1 mvfs 0 0 0\n\
+     1 set 65 k 1\n\
+     1 mark\n\
+     1 set 65 k 2\n\
+     1 set 65 k 1\n\
+     1 mark\n\
+     1 delta 72\n\
+     1 goto 71\n\
+     end\n";
+
+const ATTRIBUTE_REPORT: &str = "report 1 10\n\
+     thread 1\n\
+     3 locked\n\
+     4 made 65-69\n\
+     5 made 70\n\
+     6 made 71\n\
+     7 done\n\
+     8 done\n\
+     9 made 72\n\
+     10 delta fresh - gone - changed -\n\
+     11 went fresh - gone - changed -\n\
+     12 ended 1\n\
+     partition 1\n\
+     claimed 1\n\
+     did 1 mvfs 0 0 0\n\
+     did 1 set 65 k 1\n\
+     did 1 mark\n\
+     did 1 set 65 k 2\n\
+     did 1 set 65 k 1\n\
+     did 1 mark\n\
+     did 1 delta 72\n\
+     did 1 goto 71\n\
      released 1\n\
      end\n";

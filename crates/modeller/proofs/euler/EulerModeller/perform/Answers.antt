@@ -1,20 +1,20 @@
-use Rattle.std.proofs.Common.{◌≡◌, ◌++◌, Some, take, sym, ap, ◌∙◌}
-use Rattle.entity_store.specs.NextTags.{left}
-use Rattle.modeller.specs.Euler.{operator_of}
-use Rattle.modeller.specs.declared.euler.Operator.TheVariants as operator
-use Rattle.modeller.proofs.Performing.{performs_mvfs, performs_kvfs}
+use Rattle.solid_model.specs.Shapes.{shape_of}
+use Rattle.modeller.proofs.Performing.{done-goes, has-tags, may-do, performs}
+use Rattle.modeller.proofs.PlainCalls.{plain}
 use Rattle.modeller.proofs.euler.EulerModeller.perform.Goals as goal
 
-pub returns-in-Some-Mvfs-clause-performs : goal.returns-in-Some-Mvfs-clause-performs
-returns-in-Some-Mvfs-clause-performs g c =
-    let next = left c.args.tags.now in
-    let at = c.in-Some-Mvfs.at in
-    let is : operator_of c.args.call.now ≡ Some (operator.Mvfs at) = sym c.operator_of.ensures ∙ c.in-Some-Mvfs.is ∙ ap Some c.in-Some-Mvfs.field-0-is in
-    performs_mvfs c.args.rec.now.store.now c.mvfs_do.new.rec.store.now c.args.call.now at c.args.tags.now c.mvfs_do.new.tags c.finish.result is c.requires.goes c.mvfs_do.ensures.state c.mvfs_do.ensures.records c.mvfs_do.ensures.tags
-    (c.finish.ensures ∙ c.mvfs_do.ensures.out ∙ ap (λ ts. ts ++ take 5 next) c.requires.empty)
+pub carry_out-requires-clause-built : goal.carry_out-requires-clause-built
+carry_out-requires-clause-built g c = done-goes c.args.rec.now.store.now c.args.call.now c.args.tags.now c.args.out c.requires
 
-pub returns-in-Some-Kvfs-clause-performs : goal.returns-in-Some-Kvfs-clause-performs
-returns-in-Some-Kvfs-clause-performs g c =
-    let body = c.in-Some-Kvfs.body in
-    let is : operator_of c.args.call.now ≡ Some (operator.Kvfs body) = sym c.operator_of.ensures ∙ c.in-Some-Kvfs.is ∙ ap Some c.in-Some-Kvfs.field-0-is in
-    performs_kvfs c.args.rec.now.store.now c.kvfs_do.new.rec.store.now c.args.call.now body c.args.tags.now is c.requires.asked.sound c.kvfs_do.ensures.state c.kvfs_do.ensures.records
+pub carry_out-requires-clause-may : goal.carry_out-requires-clause-may
+carry_out-requires-clause-may g c = may-do c.args.rec.now.store.now c.args.call.now c.args.tags.now c.args.out c.requires
+
+pub carry_out-requires-clause-tags : goal.carry_out-requires-clause-tags
+carry_out-requires-clause-tags g c = has-tags c.args.rec.now.store.now c.args.call.now c.args.tags.now c.args.out c.requires
+
+pub returns-clause-performs : goal.returns-clause-performs
+returns-clause-performs g c =
+    let s = c.args.rec.now.store.now in
+    let call = c.args.call.now in
+    performs s c.carry_out.new.rec.store.now call c.args.tags.now c.carry_out.new.tags c.args.out c.carry_out.new.out c.reply_of.result c.requires
+    (plain (shape_of s.state.map) call (done-goes s call c.args.tags.now c.args.out c.requires)) c.carry_out.ensures.done c.carry_out.ensures.takes c.reply_of.ensures

@@ -1,0 +1,7 @@
+pub mod Walked
+pub mod Found
+pub mod Written
+pub mod Carried
+pub mod Dropping
+pub mod Lent
+pub mod VertexBody

@@ -1,0 +1,192 @@
+-- kvfs: what the row reaches, and the map once the five parts and their attributes were killed.
+use Rattle.std.proofs.Common.{◌≡◌, ◌≢◌, ⊎_elim, Bool, false, not, ◌||◌, List, [], ◌∷◌, Option, Some, None, refl, sym, ap, subst, ◌∙◌}
+use Rattle.std.specs.Prelude.{ℤ, IsOk, Contains}
+use Rattle.std.specs.FinMap.{get}
+use Rattle.pk_base.specs.declared.tag.Tag.{Tag}
+use Rattle.pk_base.specs.declared.entity.Entity.TheVariants as entity
+use Rattle.pk_base.specs.declared.entity.Name.{Name}
+use Rattle.pk_base.specs.declared.refusal.Refusal.TheVariants.{NotBare}
+use Rattle.pk_model.specs.Maps.{EntityMap}
+use Rattle.pk_model.proofs.TagLists.{ByRecursion-at, ByRecursion-contains}
+use Rattle.solid_model.specs.Items.{Item, Shape, item_at}
+use Rattle.solid_model.specs.Items.Item.{Body, Shell, Face, Loop, Fin, Edge, Vertex, Attr}
+use Rattle.solid_model.specs.Owners.{body_of, all_in_body}
+use Rattle.solid_model.specs.Rings.{is_among}
+use Rattle.solid_model.specs.Deaths.{dies_with, is_attribute_of, ◌without◌}
+use Rattle.solid_model.specs.Rows.{refuse_where, changes}
+use Rattle.solid_model.specs.Places.{body_at}
+use Rattle.solid_model.specs.Kvfs.{kvfs, has_more_than_a_vertex}
+use Rattle.solid_model.specs.Links.{links}
+use Rattle.solid_model.specs.Shapes.{shape_of}
+use Rattle.solid_model.specs.Sound.{IsSound}
+use Rattle.pk_base.specs.declared.entity.Point.{Point}
+use Rattle.solid_sound.proofs.Lists.{contains_cases, is_among-in, not_among, neither_from}
+use Rattle.solid_sound.proofs.Lookups.{filter-kept}
+use Rattle.solid_sound.proofs.Found.{filter-lost, filter-none, same_or_other}
+use Rattle.solid_sound.proofs.RowKeeps.{IsWell, Keeps, not_refused, well-shape}
+use Rattle.solid_sound.proofs.KeptDeaths.{in_body-among, among-in_body, kvfs-keeps}
+use Rattle.entity_store.specs.Store.{StoreView}
+use Rattle.solid_edits.specs.BareParts.{AreBareParts, tags_of_parts}
+use Rattle.solid_edits.specs.declared.bare_parts.BareParts.{BareParts}
+use Rattle.solid_edits.proofs.Going.{goes-on, goes-past}
+use Rattle.solid_calls.specs.Attributes.{attributes_on}
+use Rattle.solid_edits.specs.Deaths.{Dies, Kills}
+use Rattle.solid_edits.proofs.KilledMaps.{GainsNoAttribute, IsAttributeIn, LivesOn, attribute-in, dies-attribute, kills-dead, kills-none, kills-owned, kills-stays, shown-attribute}
+use Rattle.solid_sound.proofs.Changed.{NoneOf}
+use Rattle.euler_kill.proofs.KvfsParts.{IsBare, is-bare, item-found, attribute-body, body-part, shell-part, face-part, loop-part, vertex-part, no-fin, owner-part, part-or_attribute}
+use Rattle.solid_calls.proofs.Represented.{Represents, represented, represents-sound}
+use Rattle.solid_edits.proofs.StaysRepresented.{IsShown, KeepsFins, are-shown, shown-gone, stays-shown}
+
+-- what is known where the call is not refused
+pub record KillsBody (S : Shape) (b : Tag) : Type 0 where
+  pub bare : IsBare S b
+  pub row_is : kvfs S b ≡ changes (S without all_in_body S b)
+
+pub kills-body : (S : Shape) (b : Tag) → IsOk (kvfs S b) → KillsBody S b
+kills-body S b h =
+    let a = goes-on (body_at S b) _ h in
+    let c = goes-past (refuse_where (has_more_than_a_vertex S b) (NotBare b)) _ a.goes in
+    record { bare = is-bare S b (not_refused _ _ c.is); row_is = a.same ∙ c.same }
+
+pub face-read : (m : EntityMap) (face shell o s outer : Tag) → get m face ≡ Some (entity.Face shell o) → get m face ≡ Some (entity.Face s outer) → get m face ≡ Some (entity.Face shell outer)
+face-read m face shell o s outer h k =
+    let both : Some (entity.Face shell o) ≡ Some (entity.Face s outer) = sym h ∙ k in
+    let same : o ≡ outer = cc in
+    h ∙ ap (λ t. Some (entity.Face shell t)) same
+
+module _ (m n : EntityMap) (sound : IsSound m) (p : BareParts) (x : KillsBody (shape_of m) p.body) (are : AreBareParts (shape_of m) p)
+    (kills : Kills m (tags_of_parts p) n) where
+  abbrev S : Shape
+  S = shape_of m
+
+  abbrev all : List Tag
+  all = all_in_body S p.body
+
+  abbrev R : Shape
+  R = S without all
+
+  abbrev ks : List Tag
+  ks = tags_of_parts p
+
+  well : IsWell S
+  well = well-shape m sound
+
+  was : Represents S m
+  was = represents-sound m sound
+
+  abbrev lives : Tag × Item → Bool
+  lives y = not (dies_with all y)
+
+  part_body : (t : Tag) → Contains ks t → body_of S t ≡ p.body
+  part_body t k = ByRecursion-at (λ u. body_of S u ≡ p.body) ks t
+      (body-part S well p are, (shell-part S well p are, (face-part S well p are, (loop-part S well p are, (vertex-part S well p are, tt))))) k
+
+  -- in the body: all of it has gone
+  dead : (t : Tag) (y : Item) → item_at S t ≡ Some y → body_of S t ≡ p.body → IsShown R n t
+  dead t y e at =
+      let gone : item_at R t ≡ None = filter-lost lives S well.written.ascends t y e (ap (λ b. not (b || is_attribute_of all y)) (is_among-in t all (in_body-among S p.body t y e at))) in
+      let none : get n t ≡ None = ⊎_elim {C = get n t ≡ None}
+      (λ (part : Contains ks t). kills-dead m n ks kills t part)
+      (λ (a : (o : Tag) × (name : Name) × (value : ℤ) × (y ≡ Attr o name value)).
+      let own = owner-part S well p are x.bare t a.0 a.1 a.2 (e ∙ ap Some a.3) at in
+      kills-owned m n ks kills t a.0 a.1 a.2 (was.items t (Attr a.0 a.1 a.2) (e ∙ ap Some a.3)) own)
+      (part-or_attribute S well p are x.bare t y e at) in
+      shown-gone R n t gone none
+
+  -- elsewhere: all of it stays
+  not_all : (t : Tag) (y : Item) → item_at S t ≡ Some y → body_of S t ≢ p.body → is_attribute_of all y ≡ false
+  not_all t (Attr owner name value) e h = not_among owner all (λ k. h (attribute-body S well t owner name value e ∙ among-in_body S p.body owner well.written.ascends k))
+  not_all t (Body shell) e h = refl
+  not_all t (Shell body q) e h = refl
+  not_all t (Face shell outer) e h = refl
+  not_all t (Loop face fins vertex) e h = refl
+  not_all t (Fin mate edge vertex) e h = refl
+  not_all t (Edge body) e h = refl
+  not_all t (Vertex body point) e h = refl
+
+  not_parts : (t : Tag) (y : Item) → item_at S t ≡ Some y → body_of S t ≢ p.body → LivesOn m ks t
+  not_parts t y e h = λ owner name value is.
+      let same = shown-attribute S m t y owner name value (was.items t y e) is in
+      ByRecursion-contains (λ k. owner ≢ k) ks (λ k c own. h (attribute-body S well t owner name value (e ∙ ap Some same) ∙ ap (body_of S) own ∙ part_body k c))
+
+  stays : (t : Tag) (y : Item) → item_at S t ≡ Some y → body_of S t ≢ p.body → (item_at R t ≡ Some y) × (get n t ≡ get m t)
+  stays t y e h =
+      let apart : NoneOf t ks = ByRecursion-contains (λ k. t ≢ k) ks (λ k c same. h (ap (body_of S) same ∙ part_body k c)) in (
+        filter-kept lives S t y e (neither_from (is_among t all) (is_attribute_of all y) (not_among t all (λ k. h (among-in_body S p.body t well.written.ascends k))) (not_all t y e h)),
+        kills-stays m n ks kills t apart (not_parts t y e h),
+      )
+
+  fins : KeepsFins S R m n
+  fins f mate edge vertex e = stays f _ e (λ at. no-fin S well p.body x.bare f mate edge vertex e at)
+
+  each : (t : Tag) (o : Option Item) → item_at S t ≡ o → IsShown R n t
+  each t None e = shown-gone R n t (filter-none lives S well.written.ascends t e) (kills-none m n ks kills t (was.nothing t e))
+  each t (Some y) e = ⊎_elim {C = IsShown R n t}
+      (λ (at : body_of S t ≡ p.body). dead t y e at)
+      (λ (h : body_of S t ≢ p.body). let other = stays t y e h in stays-shown S R m n well fins was t (other.0 ∙ sym e) other.1)
+      (same_or_other (body_of S t) p.body)
+
+  reached_well : IsWell R
+  reached_well = subst (Keeps []) x.row_is (kvfs-keeps S [] p.body well)
+
+  pub body-killed : n ≡ links R
+  body-killed = represented R n reached_well (are-shown R n (λ t. each t (item_at S t) refl))
+
+-- what each part has under its tag
+pub record HasParts (m : EntityMap) (p : BareParts) : Type 0 where
+  pub body_is : get m p.body ≡ Some (entity.Body p.shell)
+  pub shell_is : (q : ℤ) × (get m p.shell ≡ Some (entity.Shell p.body q))
+  pub face_is : get m p.face ≡ Some (entity.Face p.shell p.loop_)
+  pub loop_is : get m p.loop_ ≡ Some (entity.Loop p.face None (Some p.vertex))
+  pub vertex_is : (point : Point) × (get m p.vertex ≡ Some (entity.Vertex p.body point))
+
+pub has-parts : (m : EntityMap) → IsSound m → (p : BareParts) → AreBareParts (shape_of m) p → HasParts m p
+has-parts m sound p are =
+    let was = represents-sound m sound in
+    record {
+      body_is = was.items p.body _ are.body_is;
+      shell_is = (are.q, was.items p.shell _ are.shell_is);
+      face_is = was.items p.face _ are.face_is;
+      loop_is = (was.items p.loop_ _ are.loop_is).0;
+      vertex_is = (are.point, was.items p.vertex _ are.vertex_is);
+    }
+
+-- ---- what is put is of the body
+
+pub fewer-then : (m n k : EntityMap) (killed : Tag) → GainsNoAttribute m n → Dies n killed k → GainsNoAttribute m k
+fewer-then m n k killed h dies = λ o t is. h o t (dies-attribute n k killed dies o t is)
+
+module _ (m : EntityMap) (sound : IsSound m) (p : BareParts) (are : AreBareParts (shape_of m) p) where
+  part_among : (t : Tag) → Contains (tags_of_parts p) t → Contains (all_in_body (shape_of m) p.body) t
+  part_among t k =
+      let S = shape_of m in
+      let well = well-shape m sound in
+      ByRecursion-at (λ u. Contains (all_in_body S p.body) u) (tags_of_parts p) t (
+        in_body-among S p.body p.body _ are.body_is (body-part S well p are),
+        (
+          in_body-among S p.body p.shell _ are.shell_is (shell-part S well p are),
+          (
+            in_body-among S p.body p.face _ are.face_is (face-part S well p are),
+            (in_body-among S p.body p.loop_ _ are.loop_is (loop-part S well p are), (in_body-among S p.body p.vertex _ are.vertex_is (vertex-part S well p are), tt)),
+          ),
+        ),
+      ) k
+
+  on_among : (o : Tag) → Contains (tags_of_parts p) o → (t : Tag) → IsAttributeIn m o t → Contains (all_in_body (shape_of m) p.body) t
+  on_among o k t (name, value, is) =
+      let S = shape_of m in
+      let well = well-shape m sound in
+      let item = item-found m t (entity.Attr o name value) is in
+      in_body-among S p.body t _ item (attribute-body S well t o name value item ∙ among-in_body S p.body o well.written.ascends (part_among o k))
+
+  -- a part and the attributes that it still has
+  pub kill-among : (b : Tag) → p.body ≡ b → (n : EntityMap) → GainsNoAttribute m n → (o : Tag) → Contains (tags_of_parts p) o → (t : Tag) → Contains (o ∷ attributes_on n o) t → Contains (all_in_body (shape_of m) b) t
+  kill-among b same n fewer o k t c =
+      subst (λ u. Contains (all_in_body (shape_of m) u) t) same
+      (⊎_elim (λ (e : o ≡ t). subst (λ u. Contains (all_in_body (shape_of m) p.body) u) e (part_among o k))
+      (λ (r : Contains (attributes_on n o) t). on_among o k t (fewer o t (attribute-in n o t r)))
+      (contains_cases o (attributes_on n o) t c))
+
+-- what is found of the parts in a store that is lent
+pub parts-seen : (v s : StoreView) → v ≡ s → (p : BareParts) → AreBareParts (shape_of v.state.map) p → AreBareParts (shape_of s.state.map) p
+parts-seen v s e p h = subst (λ (w : StoreView). AreBareParts (shape_of w.state.map) p) e h

@@ -1,0 +1,19 @@
+-- In reading order.
+pub mod RingMoveReached
+pub mod KfmrhReached
+pub mod KfmrhRoom
+pub mod KidsFound
+pub mod KvfsCounts
+pub mod KvfsParts
+pub mod KvfsReached
+pub mod KvfsRoom
+pub mod KevReached
+pub mod KevFound
+pub mod KevRun
+pub mod KevNeed
+pub mod KefReached
+pub mod KefSteps
+pub mod KefRoom
+pub mod KefDone
+pub mod KemrReached
+pub mod KemrStages

@@ -1,0 +1,103 @@
+-- Each step asks for what the steps before it have left.
+use Rattle.std.proofs.Common.{◌≡◌, Some, refl, subst, sym}
+use Rattle.std.specs.Prelude.{IsSome}
+use Rattle.entity_store.specs.Store.{StoreView}
+use Rattle.solid_calls.specs.LinkedRings.{next_at}
+use Rattle.solid_edits.proofs.PlacedFins.{found_fin}
+use Rattle.euler_kill.proofs.KefRoom.{kef-goes}
+use Rattle.euler_kill.proofs.KefDone.{asks-joined, joined-room, kef-done, label-other, label-owned, label-ring, label-room, loop-face_owned, loop-owned, loop-ring, loop-room, next-some, side-owned, side-room}
+use Rattle.euler_kill.proofs.kef.kef_do.Goals as goal
+
+pub ring_next-first-requires : goal.ring_next-first-requires
+ring_next-first-requires g c =
+    let s = c.args.rec.now.store.now in
+    let x = c.args.fin in
+    let a = c.view-store.result.now in
+    let viewed = c.view-store.ensures in
+    let u = found_fin a.state.map x c.in-Ok.u in
+    let v = found_fin a.state.map u.mate c.in-Ok-fin_at.v in
+    let G = kef-goes s a viewed x u v c.blocks-2.ensures.hosted c.requires c.in-Ok.ensures.found c.in-Ok-fin_at.ensures.found refl c.in-Ok.ensures.ring refl c.in-Ok-fin_at.ensures.ring in
+    subst (λ (z : StoreView). IsSome (next_at z.state.map x)) (sym viewed) (next-some s x u v G)
+
+pub join_rings-requires : goal.join_rings-requires
+join_rings-requires g c =
+    let s = c.args.rec.now.store.now in
+    let x = c.args.fin in
+    let a = c.view-store.result.now in
+    let viewed = c.view-store.ensures in
+    let u = found_fin a.state.map x c.in-Ok.u in
+    let v = found_fin a.state.map u.mate c.in-Ok-fin_at.v in
+    let G = kef-goes s a viewed x u v c.blocks-2.ensures.hosted c.requires c.in-Ok.ensures.found c.in-Ok-fin_at.ensures.found refl c.in-Ok.ensures.ring refl c.in-Ok-fin_at.ensures.ring in
+    let asks = asks-joined s x u v G in
+    record {
+      x = asks.ring;
+      y = asks.mate_ring;
+      apart = asks.apart;
+      room = joined-room s x u v G;
+    }
+
+pub relabel-requires : goal.relabel-requires
+relabel-requires g c =
+    let s = c.args.rec.now.store.now in
+    let x = c.args.fin in
+    let a = c.view-store.result.now in
+    let viewed = c.view-store.ensures in
+    let u = found_fin a.state.map x c.in-Ok.u in
+    let v = found_fin a.state.map u.mate c.in-Ok-fin_at.v in
+    let G = kef-goes s a viewed x u v c.blocks-2.ensures.hosted c.requires c.in-Ok.ensures.found c.in-Ok-fin_at.ensures.found refl c.in-Ok.ensures.ring refl c.in-Ok-fin_at.ensures.ring in
+    let first = c.ring_next-first.result in
+    let next = subst (λ (z : StoreView). next_at z.state.map x ≡ Some first) viewed c.ring_next-first.ensures in
+    record {
+      ring = label-ring s x u v G first next c.join_rings.new.rec.store.now c.join_rings.ensures.links c.join_rings.ensures.state c.join_rings.ensures.puts;
+      owned = label-owned s x u v G first next c.join_rings.new.rec.store.now c.join_rings.ensures.links c.join_rings.ensures.state c.join_rings.ensures.puts;
+      other = label-other s x u v G first next c.join_rings.new.rec.store.now c.join_rings.ensures.links c.join_rings.ensures.state c.join_rings.ensures.puts;
+      room = label-room s x u v G first next c.join_rings.new.rec.store.now c.join_rings.ensures.links c.join_rings.ensures.state c.join_rings.ensures.puts;
+    }
+
+pub put_loop-requires : goal.put_loop-requires
+put_loop-requires g c =
+    let s = c.args.rec.now.store.now in
+    let x = c.args.fin in
+    let a = c.view-store.result.now in
+    let viewed = c.view-store.ensures in
+    let u = found_fin a.state.map x c.in-Ok.u in
+    let v = found_fin a.state.map u.mate c.in-Ok-fin_at.v in
+    let G = kef-goes s a viewed x u v c.blocks-2.ensures.hosted c.requires c.in-Ok.ensures.found c.in-Ok-fin_at.ensures.found refl c.in-Ok.ensures.ring refl c.in-Ok-fin_at.ensures.ring in
+    let first = c.ring_next-first.result in
+    let next = subst (λ (z : StoreView). next_at z.state.map x ≡ Some first) viewed c.ring_next-first.ensures in
+    record {
+      ring = loop-ring s x u v G first next c.join_rings.new.rec.store.now c.join_rings.ensures.links c.join_rings.ensures.state c.join_rings.ensures.puts c.relabel.new.rec.store.now c.relabel.ensures.labels c.relabel.ensures.state c.relabel.ensures.puts;
+      owned = loop-owned s x u v G first next c.join_rings.new.rec.store.now c.join_rings.ensures.links c.join_rings.ensures.state c.join_rings.ensures.puts c.relabel.new.rec.store.now c.relabel.ensures.labels c.relabel.ensures.state c.relabel.ensures.puts;
+      face_owned = loop-face_owned s x u v G first next c.join_rings.new.rec.store.now c.join_rings.ensures.links c.join_rings.ensures.state c.join_rings.ensures.puts c.relabel.new.rec.store.now c.relabel.ensures.labels c.relabel.ensures.state c.relabel.ensures.puts;
+      other = G.face_apart;
+      room = loop-room s x u v G first next c.join_rings.new.rec.store.now c.join_rings.ensures.links c.join_rings.ensures.state c.join_rings.ensures.puts c.relabel.new.rec.store.now c.relabel.ensures.labels c.relabel.ensures.state c.relabel.ensures.puts;
+    }
+
+pub kill_side-requires : goal.kill_side-requires
+kill_side-requires g c =
+    let s = c.args.rec.now.store.now in
+    let x = c.args.fin in
+    let a = c.view-store.result.now in
+    let viewed = c.view-store.ensures in
+    let u = found_fin a.state.map x c.in-Ok.u in
+    let v = found_fin a.state.map u.mate c.in-Ok-fin_at.v in
+    let G = kef-goes s a viewed x u v c.blocks-2.ensures.hosted c.requires c.in-Ok.ensures.found c.in-Ok-fin_at.ensures.found refl c.in-Ok.ensures.ring refl c.in-Ok-fin_at.ensures.ring in
+    let first = c.ring_next-first.result in
+    let next = subst (λ (z : StoreView). next_at z.state.map x ≡ Some first) viewed c.ring_next-first.ensures in
+    record {
+      owned = side-owned s x u v G first next c.join_rings.new.rec.store.now c.join_rings.ensures.links c.join_rings.ensures.state c.join_rings.ensures.puts c.relabel.new.rec.store.now c.relabel.ensures.labels c.relabel.ensures.state c.relabel.ensures.puts c.put_loop.new.rec.store.now c.put_loop.ensures.state c.put_loop.ensures.puts;
+      room = side-room s x u v G first next c.join_rings.new.rec.store.now c.join_rings.ensures.links c.join_rings.ensures.state c.join_rings.ensures.puts c.relabel.new.rec.store.now c.relabel.ensures.labels c.relabel.ensures.state c.relabel.ensures.puts c.put_loop.new.rec.store.now c.put_loop.ensures.state c.put_loop.ensures.puts;
+    }
+
+pub returns-clause-done : goal.returns-clause-done
+returns-clause-done g c =
+    let s = c.args.rec.now.store.now in
+    let x = c.args.fin in
+    let a = c.view-store.result.now in
+    let viewed = c.view-store.ensures in
+    let u = found_fin a.state.map x c.in-Ok.u in
+    let v = found_fin a.state.map u.mate c.in-Ok-fin_at.v in
+    let G = kef-goes s a viewed x u v c.blocks-2.ensures.hosted c.requires c.in-Ok.ensures.found c.in-Ok-fin_at.ensures.found refl c.in-Ok.ensures.ring refl c.in-Ok-fin_at.ensures.ring in
+    let first = c.ring_next-first.result in
+    let next = subst (λ (z : StoreView). next_at z.state.map x ≡ Some first) viewed c.ring_next-first.ensures in
+    kef-done s x u v G first next c.join_rings.new.rec.store.now c.join_rings.ensures.links c.join_rings.ensures.state c.join_rings.ensures.puts c.relabel.new.rec.store.now c.relabel.ensures.labels c.relabel.ensures.state c.relabel.ensures.puts c.put_loop.new.rec.store.now c.put_loop.ensures.state c.put_loop.ensures.puts c.kill_side.new.rec.store.now c.kill_side.ensures.kills c.kill_side.ensures.state c.kill_side.ensures.puts

@@ -1,0 +1,124 @@
+//! The operator kef.
+ghost use Rattle.std.specs.Prelude.{◌≡◌, ◌+◌, ◌*◌, ◌≤◌, [], ◌∷◌, IsTrue, length};
+ghost use Rattle.std.specs.List.{AllByRecursion, flat_map};
+ghost use Rattle.pk_base.specs.declared.call.Call.TheVariants.{Kef};
+ghost use Rattle.pk_model.specs.Tags.{owns};
+ghost use Rattle.solid_model.specs.Sound.{IsSound};
+ghost use Rattle.solid_calls.specs.Attributes.{attributes_on};
+ghost use Rattle.solid_calls.specs.Pairs.{HasDone, MayDo, NeedsAsRow};
+ghost use Rattle.solid_calls.specs.Room.{HasRoomForThese, PutsAmong};
+ghost use Rattle.solid_edits.specs.Deaths.{Kills, with_attributes};
+
+use attributes::count_attributes;
+use entity_store::{Need, Recorder, Steps, Store};
+use halfedge::{join_rings, relabel, ring_len, ring_next};
+use pk_base::{Refusal, Tag};
+use solid_edits::{kill, put_loop};
+use solid_places::{PlacedFin, fin_at, has_rings};
+use std::sync::ledger::Ledger;
+
+/// What `kef_do` needs, or why it is refused. It takes no memory.
+pub fn kef_need<L: Ledger>(store: &Store, fin: Tag, steps: &mut Steps<L>) -> Result<Need, Refusal>
+    requires { IsSound store.now.state.map }
+    ensures { NeedsAsRow store.now.state.map (Kef fin) result }
+{
+    // The blocks bound how many fins there are.
+    store.blocks();
+    let u = fin_at(store, fin, steps)?;
+    let v = fin_at(store, u.mate, steps)?;
+    if u.loop_ == v.loop_ {
+        return Err(Refusal::OneLoop(u.loop_));
+    }
+    if has_rings(store, u.face, steps) {
+        return Err(Refusal::HasRings(u.face));
+    }
+    let dead = count_dead(store, fin, &u, steps);
+    let fins = ring_len(store, fin, steps) + ring_len(store, u.mate, steps);
+    Ok(Need {
+        tags: 0,
+        changes: dead + 1 + fins,
+        list: 0,
+    })
+}
+
+/// Kills the edge between two faces, and the face of its fin x, which has no rings.
+///
+/// Before, the loop of x is `P x`, and the loop of its mate y is `Q y`. After, the loop of y is `P
+/// Q`, and the loop of x, its face, x, y and the edge are gone, with the attributes of each.
+///
+/// Takes no tags and no memory.
+///
+/// Refuses, in this order: a tag that is not live (`NoSuchTag`); one that is no fin (`WrongClass`);
+/// an edge that has one loop on both sides (`OneLoop` with it); a face of x with more than one loop
+/// (`HasRings` with the face). A refusal changes nothing: `kef_need` tells it.
+///
+/// `Mef { from: f, to: g }` undoes it, where f is the first fin of P and g the first of Q, but for
+/// the tags and the attributes.
+///
+/// Where loop 79 of the face 78 is `72 76 81`, and loop 68 is `73 82 77`, with the mates 81 and 82,
+/// `Kef { fin: 81 }` kills 78 to 82. Then loop 68 is `72 76 77 73`.
+///
+/// Source: Mäntylä, An Introduction to Solid Modeling, 1988; the form is this project's own.
+pub fn kef_do<L: Ledger>(rec: &mut Recorder<'_>, fin: Tag, steps: &mut Steps<L>)
+    requires { MayDo rec.old.store.now (Kef fin) }
+    ensures done { HasDone rec.old.store.now (Kef fin) [] rec.new.store.now }
+    ensures same_store { rec.new.store.ghost_name ≡ rec.old.store.ghost_name }
+{
+    let store = rec.view();
+    // Each live entity stands in an owned block.
+    store.blocks();
+    let Ok(u) = fin_at(store, fin, steps) else {
+        unreachable!()
+    };
+    let Ok(v) = fin_at(store, u.mate, steps) else {
+        unreachable!()
+    };
+    // No edge ends where it starts, so the ring has another fin.
+    let first = ring_next(store, fin, steps);
+    join_rings(rec, fin, steps);
+    relabel(rec, first, v.loop_, steps);
+    put_loop(rec, v.loop_, v.face, first, steps);
+    kill_side(rec, fin, &u, steps);
+}
+
+/// How many die with the face of the fin: its loop, it itself, the fin, its mate and the edge, and
+/// their attributes.
+fn count_dead<L: Ledger>(store: &Store, fin: Tag, u: &PlacedFin, steps: &mut Steps<L>) -> usize
+    ensures dead { let killed = u.now.loop_ ∷ u.now.face ∷ fin ∷ u.now.mate ∷ u.now.edge ∷ [] in
+        result ≡ 5 + length (flat_map (attributes_on store.now.state.map) killed) }
+    ensures few { result ≤ 5 + 5 * 16777152 }
+{
+    // The blocks bound how many attributes there are.
+    store.blocks();
+    let loops = count_attributes(store, u.loop_, steps);
+    let faces = count_attributes(store, u.face, steps);
+    let fins = count_attributes(store, fin, steps);
+    let mates = count_attributes(store, u.mate, steps);
+    let edges = count_attributes(store, u.edge, steps);
+    5 + loops + faces + fins + mates + edges
+}
+
+/// Kills the face of the fin with its loop, and the fin, its mate and the edge, each with its
+/// attributes.
+fn kill_side<L: Ledger>(rec: &mut Recorder<'_>, fin: Tag, u: &PlacedFin, steps: &mut Steps<L>)
+    requires owned { AllByRecursion (λ t. IsTrue (owns rec.old.store.now.state.blocks t))
+        (u.now.loop_ ∷ u.now.face ∷ fin ∷ u.now.mate ∷ u.now.edge ∷ []) }
+    requires room { HasRoomForThese rec.old.store.now.recording
+        (with_attributes rec.old.store.now.state.map
+        (u.now.loop_ ∷ u.now.face ∷ fin ∷ u.now.mate ∷ u.now.edge ∷ [])) }
+    ensures kills { Kills rec.old.store.now.state.map
+        (u.now.loop_ ∷ u.now.face ∷ fin ∷ u.now.mate ∷ u.now.edge ∷ [])
+        rec.new.store.now.state.map }
+    ensures state { rec.new.store.now.state ≡ record rec.old.store.now.state
+        { map = rec.new.store.now.state.map } }
+    ensures puts { PutsAmong (with_attributes rec.old.store.now.state.map
+        (u.now.loop_ ∷ u.now.face ∷ fin ∷ u.now.mate ∷ u.now.edge ∷ []))
+        rec.old.store.now rec.new.store.now }
+    ensures same_store { rec.new.store.ghost_name ≡ rec.old.store.ghost_name }
+{
+    kill(rec, u.loop_, steps);
+    kill(rec, u.face, steps);
+    kill(rec, fin, steps);
+    kill(rec, u.mate, steps);
+    kill(rec, u.edge, steps);
+}

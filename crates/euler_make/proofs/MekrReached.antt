@@ -1,0 +1,566 @@
+-- The map that mekr leaves is that of the shape which its row reaches.
+use Rattle.std.proofs.Common.{◌≡◌, ◌≢◌, ℕ, ◌+◌, ◌<◌, ⊎_elim, Bool, true, false, not, List, [], ◌∷◌, ◌++◌, drop, length, Option, Some, None, Ok, refl, sym, ap, subst, ◌∙◌, length-append, arith}
+use Rattle.std.specs.Prelude.{Contains, IfSome, IsOk, IsTrue, option_map}
+use Rattle.std.specs.Option.{option_and_then}
+use Rattle.std.specs.List.{AllByRecursion, flat_map}
+use Rattle.std.specs.FinMap.{get}
+use Rattle.std.proofs.lemmas.Bool.{not-false}
+use Rattle.std.proofs.lemmas.List.Elements.{Contains-append_cases}
+use Rattle.pk_base.specs.Entity.{same_tag}
+use Rattle.pk_base.specs.declared.tag.Tag.{Tag}
+use Rattle.pk_base.specs.declared.entity.Entity.{Entity}
+use Rattle.pk_base.specs.declared.entity.Entity.TheVariants as entity
+use Rattle.pk_base.specs.declared.entity.Class.{Class}
+use Rattle.pk_base.specs.declared.entity.Class.TheVariants as class
+use Rattle.pk_base.specs.declared.refusal.Refusal.TheVariants.{NotOneFace, OneLoop, IsOuter, SameVertex}
+use Rattle.pk_base.specs.declared.call.Call.TheVariants.{Mekr}
+use Rattle.pk_model.specs.Apart.{NoRepeats}
+use Rattle.pk_model.specs.Maps.{EntityMap, with_entity}
+use Rattle.pk_model.specs.Step.{◌>>=◌}
+use Rattle.pk_model.specs.Tags.{TagsAscend, owns}
+use Rattle.pk_model.proofs.TagLists.{ByRecursion-at, ByRecursion-contains, ByRecursion-weaker, NoRepeats-append, contains_only}
+use Rattle.entity_store.specs.Store.{IsHosted, StoreView}
+use Rattle.entity_store.proofs.FirstValues.{get_other, get_put}
+use Rattle.solid_model.specs.Items.{Item, Shape, item_at, class_of_item, ◌with◌}
+use Rattle.solid_model.specs.Items.Item.{Loop, Fin, Edge}
+use Rattle.solid_model.specs.Rings.{first_tag, from_least, ring_of}
+use Rattle.solid_model.specs.Deaths.{◌without◌}
+use Rattle.solid_model.specs.Room.{if_found, puts_of, puts_of_mekr}
+use Rattle.solid_model.specs.Rows.{Row, makes_three, refuse_where, ◌>>◌}
+use Rattle.solid_model.specs.Places.{End, end_at, outer_at}
+use Rattle.solid_model.specs.Mekr.{mekr}
+use Rattle.solid_model.specs.Links.{links}
+use Rattle.solid_model.specs.Shapes.{shape_of}
+use Rattle.solid_model.specs.Sound.{IsSound, class_at}
+use Rattle.solid_sound.proofs.Lists.{contains_cases, differs_means}
+use Rattle.solid_sound.proofs.Cycles.{least-in}
+use Rattle.solid_sound.proofs.Turned.{turned-back, turned-in}
+use Rattle.solid_sound.proofs.Asked.{free_item}
+use Rattle.solid_sound.proofs.Changed.{NoneOf}
+use Rattle.solid_sound.proofs.Edits.{Edits, class_apart, edits}
+use Rattle.solid_sound.proofs.Ends.{EndIn, end-well}
+use Rattle.solid_sound.proofs.KeptMekr.{mekr-keeps}
+use Rattle.solid_sound.proofs.Lookups.{Items, tags_in}
+use Rattle.solid_sound.proofs.Names.{NotAttr}
+use Rattle.solid_sound.proofs.Reading.{fin_in, loop-of_fin}
+use Rattle.solid_sound.proofs.RowKeeps.{IsWell, Keeps, well-shape}
+use Rattle.solid_calls.specs.Attributes.{attributes_on}
+use Rattle.solid_calls.specs.LinkedRings.{FinFields, IsInRing, IsRing, Relabels, Relinks, as_fin, fin_in as fin_fields, loop_named, next_at, prev_at, ring_at, ring_of_any}
+use Rattle.solid_calls.specs.Pairs.{reached}
+use Rattle.solid_edits.specs.Deaths.{Kills, unless_on_any, with_attributes}
+use Rattle.euler_make.specs.JoinedLoops.{with_edge}
+use Rattle.solid_places.specs.declared.ends.End.{End as FoundEnd}
+use Rattle.solid_calls.proofs.Deaths.{deaths-of}
+use Rattle.solid_calls.proofs.LinkedRings.{in-ring_from, in-ring_starts, ring-kept, ring-least, ring_at-is}
+use Rattle.solid_calls.proofs.Represented.{Represents, Shows, represented, represents-sound}
+use Rattle.solid_edits.proofs.WrittenMaps.{edited}
+use Rattle.solid_edits.proofs.KilledMaps.{GainsNoAttribute, unless-fin, unless-plain}
+use Rattle.solid_edits.proofs.PlacedAnew.{IsFinOf, IsSameElsewhere, elsewhere-fin, elsewhere-plain, relabels-elsewhere, relabels-links, relabels-named, relinks-elsewhere, relinks-named, unplaced}
+
+-- ---- the row
+
+-- what the row says where nothing refuses it
+abbrev pub joined_row : Shape → End → End → Row
+joined_row S u v = makes_three (λ edge f m. S with
+    (edge, Edge u.body) ∷
+    (f, Fin m edge u.vertex) ∷
+    (m, Fin f edge v.vertex) ∷
+    (u.loop_, ring_of u.face (f ∷ v.fins ++ m ∷ u.fins)) ∷ []
+    without v.loop_ ∷ [])
+
+-- and by its tests, in their order
+abbrev pub tested_row : Shape → End → End → Bool → Bool → Bool → Bool → Row
+tested_row S u v a b c d =
+    refuse_where a (NotOneFace u.face v.face) >> refuse_where b (OneLoop u.loop_) >> refuse_where c (IsOuter v.loop_) >> refuse_where d (SameVertex u.vertex) >> joined_row S u v
+
+abbrev pub by_tests : Shape → End → End → Row
+by_tests S u v = tested_row S u v (not (same_tag u.face v.face)) (same_tag u.loop_ v.loop_) (same_tag v.loop_ (outer_at S v.face)) (same_tag u.vertex v.vertex)
+
+pub mekr-found : (S : Shape) (k r : Tag) (u v : End) → end_at S k ≡ Ok u → end_at S r ≡ Ok v → mekr S k r ≡ by_tests S u v
+mekr-found S k r u v found other = ap (λ o. o >>= (λ p. end_at S r >>= (λ q. by_tests S p q))) found ∙ ap (λ o. o >>= (λ q. by_tests S u q)) other
+
+-- no test refuses
+pub record AreApart (S : Shape) (u v : End) : Type 0 where
+  pub face : same_tag u.face v.face ≡ true
+  pub loops : same_tag u.loop_ v.loop_ ≡ false
+  pub outer : same_tag v.loop_ (outer_at S v.face) ≡ false
+  pub ends : same_tag u.vertex v.vertex ≡ false
+
+tests_pass : (S : Shape) (u v : End) (a b c d : Bool) → IsOk (tested_row S u v a b c d) → (a ≡ false) × (b ≡ false) × (c ≡ false) × (d ≡ false)
+tests_pass S u v true b c d h = absurd (cc)
+tests_pass S u v false true c d h = absurd (cc)
+tests_pass S u v false false true d h = absurd (cc)
+tests_pass S u v false false false true h = absurd (cc)
+tests_pass S u v false false false false h = (refl, refl, refl, refl)
+
+pub mekr-goes : (S : Shape) (k r : Tag) (u v : End) → end_at S k ≡ Ok u → end_at S r ≡ Ok v → IsOk (mekr S k r) → AreApart S u v
+mekr-goes S k r u v found other goes =
+    let h = tests_pass S u v (not (same_tag u.face v.face)) (same_tag u.loop_ v.loop_) (same_tag v.loop_ (outer_at S v.face)) (same_tag u.vertex v.vertex)
+    (subst (λ (o : Row). IsOk o) (mekr-found S k r u v found other) goes) in
+    record { face = not-false (same_tag u.face v.face) h.0; loops = h.1; outer = h.2; ends = h.3 }
+
+pub mekr-is : (S : Shape) (k r : Tag) (u v : End) → end_at S k ≡ Ok u → end_at S r ≡ Ok v → AreApart S u v → mekr S k r ≡ joined_row S u v
+mekr-is S k r u v found other apart = mekr-found S k r u v found other ∙ (λ i. tested_row S u v (not (apart.face i)) (apart.loops i) (apart.outer i) (apart.ends i))
+
+-- ---- the ends
+
+-- both ends were found, each with a fin of its loop's ring, where there is one, and no test refuses
+pub record AreEnds (m : EntityMap) (k r : Tag) (u v : End) (at_k at_r : Option Tag) : Type 0 where
+  pub sound : IsSound m
+  pub found : end_at (shape_of m) k ≡ Ok u
+  pub other : end_at (shape_of m) r ≡ Ok v
+  pub apart : AreApart (shape_of m) u v
+  pub kept : u.fins ≡ ring_of_any m at_k
+  pub joined : v.fins ≡ ring_of_any m at_r
+  pub kept_ring : IfSome at_k (IsInRing m)
+  pub joined_ring : IfSome at_r (IsInRing m)
+
+-- an end that was found, with the fins of its loop
+abbrev pub end_with : FoundEnd → List Tag → End
+end_with x fins = record { vertex = x.vertex; loop_ = x.loop_; face = x.face; body = x.body; fins = fins }
+
+pub ends-found : (s a b : StoreView) (k r : Tag) (x y : FoundEnd) → a ≡ s → b ≡ s → IsSound s.state.map → IsOk (mekr (shape_of s.state.map) k r)
+    → end_at (shape_of a.state.map) k ≡ Ok (end_with x (ring_of_any a.state.map x.first)) → end_at (shape_of b.state.map) r ≡ Ok (end_with y (ring_of_any b.state.map y.first))
+    → IfSome x.first (IsInRing a.state.map) → IfSome y.first (IsInRing b.state.map)
+    → AreEnds s.state.map k r (end_with x (ring_of_any s.state.map x.first)) (end_with y (ring_of_any s.state.map y.first)) x.first y.first
+ends-found s a b k r x y is_a is_b sound goes found other ring_k ring_r =
+    let u = end_with x (ring_of_any s.state.map x.first) in
+    let v = end_with y (ring_of_any s.state.map y.first) in
+    let here : end_at (shape_of s.state.map) k ≡ Ok u = subst (λ (z : StoreView). end_at (shape_of z.state.map) k ≡ Ok (end_with x (ring_of_any z.state.map x.first))) is_a found in
+    let there : end_at (shape_of s.state.map) r ≡ Ok v = subst (λ (z : StoreView). end_at (shape_of z.state.map) r ≡ Ok (end_with y (ring_of_any z.state.map y.first))) is_b other in
+    record {
+      sound = sound;
+      found = here;
+      other = there;
+      apart = mekr-goes (shape_of s.state.map) k r u v here there goes;
+      kept = refl;
+      joined = refl;
+      kept_ring = subst (λ (z : StoreView). IfSome x.first (IsInRing z.state.map)) is_a ring_k;
+      joined_ring = subst (λ (z : StoreView). IfSome y.first (IsInRing z.state.map)) is_b ring_r;
+    }
+
+-- ---- rings, where there is one
+
+pub ring-of_any : (m : EntityMap) (o : Option Tag) → IfSome o (IsInRing m) → IsRing m (ring_of_any m o)
+ring-of_any m None h = record { once = tt; linked = tt }
+ring-of_any m (Some f) h = h.ring
+
+-- a ring whose links stay is read again
+pub ring_of_any-kept : (m n : EntityMap) (o : Option Tag) → IfSome o (IsInRing m) → ((t : Tag) → Contains (ring_of_any m o) t → (next_at n t ≡ next_at m t) × (prev_at n t ≡ prev_at m t))
+    → (ring_of_any n o ≡ ring_of_any m o) × IfSome o (IsInRing n)
+ring_of_any-kept m n None h same = (refl, tt)
+ring_of_any-kept m n (Some f) h same =
+    let starts = in-ring_starts m f h in
+    let is : IsRing n (f ∷ drop 1 (ring_at m f)) = subst (IsRing n) starts (ring-kept m n (ring_at m f) h.ring same) in
+    (ring_at-is n f (drop 1 (ring_at m f)) is ∙ sym starts, in-ring_from n f (drop 1 (ring_at m f)) is)
+
+-- ---- the edge that is put
+
+module _ (m : EntityMap) (e f g body l from to : Tag) (once : NoRepeats (e ∷ f ∷ g ∷ [])) where
+  abbrev out : Entity
+  out = entity.Fin l f f g e from
+
+  abbrev back : Entity
+  back = entity.Fin l g g f e to
+
+  abbrev with_first : EntityMap
+  with_first = with_entity m e (Some (entity.Edge body f))
+
+  abbrev with_out : EntityMap
+  with_out = with_entity with_first f (Some out)
+
+  abbrev new : EntityMap
+  new = with_edge m e f g body l from to
+
+  pub edge-other : (t : Tag) → NoneOf t (e ∷ f ∷ g ∷ []) → get new t ≡ get m t
+  edge-other t none = get_other with_out g (Some back) t none.1.1.0 ∙ get_other with_first f (Some out) t none.1.0 ∙ get_other m e (Some (entity.Edge body f)) t none.0
+
+  pub edge-edge : get new e ≡ Some (entity.Edge body f)
+  edge-edge = get_other with_out g (Some back) e once.0.1.0 ∙ get_other with_first f (Some out) e once.0.0 ∙ get_put m e (Some (entity.Edge body f))
+
+  pub edge-fin : get new f ≡ Some out
+  edge-fin = get_other with_out g (Some back) f once.1.0.0 ∙ get_put with_first f (Some out)
+
+  pub edge-mate : get new g ≡ Some back
+  edge-mate = get_put with_out g (Some back)
+
+-- ---- the loops
+
+module _ (m : EntityMap) (k r : Tag) (u v : End) (at_k at_r : Option Tag) (at : AreEnds m k r u v at_k at_r) where
+  abbrev S : Shape
+  S = shape_of m
+
+  abbrev well : IsWell S
+  well = well-shape m at.sound
+
+  abbrev was : Represents S m
+  was = represents-sound m at.sound
+
+  abbrev E : EndIn S u
+  E = end-well S well k (item_at S k) refl u at.found
+
+  abbrev G : EndIn S v
+  G = end-well S well r (item_at S r) refl v at.other
+
+  -- the fins of the ring, and those of the loop that is kept
+  abbrev pub mekr_a : List Tag
+  mekr_a = ring_of_any m at_r
+
+  abbrev pub mekr_b : List Tag
+  mekr_b = ring_of_any m at_k
+
+  other_loop : u.loop_ ≢ v.loop_
+  other_loop = differs_means u.loop_ v.loop_ at.apart.loops
+
+  l_class : class_at S u.loop_ ≡ Some class.Loop
+  l_class = ap (option_map class_of_item) E.loop_is
+
+  v_class : class_at S v.loop_ ≡ Some class.Loop
+  v_class = ap (option_map class_of_item) G.loop_is
+
+  a_list : (t : Tag) → Contains mekr_a t → Contains G.list t
+  a_list t c = turned-in v.fins G.list (turned-back G.list v.fins G.turned) t (subst (λ ts. Contains ts t) (sym at.joined) c)
+
+  b_list : (t : Tag) → Contains mekr_b t → Contains E.list t
+  b_list t c = turned-in u.fins E.list (turned-back E.list u.fins E.turned) t (subst (λ ts. Contains ts t) (sym at.kept) c)
+
+  pub a-class : (t : Tag) → Contains mekr_a t → class_at S t ≡ Some class.Fin
+  a-class t c = ap (option_map class_of_item) (fin_in S well.written well.sound v.loop_ v.face G.list G.lone G.loop_is t (a_list t c)).3
+
+  pub b-class : (t : Tag) → Contains mekr_b t → class_at S t ≡ Some class.Fin
+  b-class t c = ap (option_map class_of_item) (fin_in S well.written well.sound u.loop_ u.face E.list E.lone E.loop_is t (b_list t c)).3
+
+  a_loop : (t : Tag) → Contains mekr_a t → (l face : Tag) (fins : List Tag) (vertex : Option Tag) → item_at S l ≡ Some (Loop face fins vertex) → Contains fins t → l ≡ v.loop_
+  a_loop t c l face fins vertex is i = sym (loop-of_fin S well.written well.sound l face fins vertex is t i) ∙ loop-of_fin S well.written well.sound v.loop_ v.face G.list G.lone G.loop_is t (a_list t c)
+
+  b_loop : (t : Tag) → Contains mekr_b t → (l face : Tag) (fins : List Tag) (vertex : Option Tag) → item_at S l ≡ Some (Loop face fins vertex) → Contains fins t → l ≡ u.loop_
+  b_loop t c l face fins vertex is i = sym (loop-of_fin S well.written well.sound l face fins vertex is t i) ∙ loop-of_fin S well.written well.sound u.loop_ u.face E.list E.lone E.loop_is t (b_list t c)
+
+  not_both : (t : Tag) → Contains mekr_a t → Contains mekr_b t → ⊥
+  not_both t a b = other_loop (a_loop t a u.loop_ u.face E.list E.lone E.loop_is (b_list t b))
+
+  a_ring : IsRing m mekr_a
+  a_ring = ring-of_any m at_r at.joined_ring
+
+  b_ring : IsRing m mekr_b
+  b_ring = ring-of_any m at_k at.kept_ring
+
+  -- the ring is given to the loop, none of whose fins it is
+  pub mekr-no_fin : ¬ (Contains mekr_a u.loop_)
+  mekr-no_fin c = let both : Some class.Loop ≡ Some class.Fin = sym l_class ∙ a-class u.loop_ c in cc
+
+  -- ---- what is owned
+
+  module _ (blocks : List ℕ) (hosted : (t : Tag) (x : Entity) → get m t ≡ Some x → IsHosted blocks t x) where
+    pub mekr-loop_hosted : (first : Option Tag) → IsHosted blocks u.loop_ (entity.Loop u.face first None)
+    mekr-loop_hosted first =
+        let there = hosted u.loop_ _ (was.items u.loop_ _ E.loop_is).0 in
+        record { owned = there.owned; owner = there.owner }
+
+    pub mekr-ring_owned : IsTrue (owns blocks v.loop_)
+    mekr-ring_owned = (hosted v.loop_ _ (was.items v.loop_ _ G.loop_is).0).owned
+
+    pub mekr-body_owned : IsTrue (owns blocks u.body)
+    mekr-body_owned = (hosted u.body _ (was.items u.body _ E.body_is)).owned
+
+  pub mekr-loop_live : (t : Tag) → get m t ≡ None → u.loop_ ≢ t
+  mekr-loop_live t free same = let both : None ≡ Some (entity.Loop u.face (first_tag E.list) E.lone) = sym free ∙ ap (get m) (sym same) ∙ (was.items u.loop_ _ E.loop_is).0 in cc
+
+  pub mekr-body_live : (t : Tag) → get m t ≡ None → u.body ≢ t
+  mekr-body_live t free same = let both : None ≡ Some (entity.Body E.shell) = sym free ∙ ap (get m) (sym same) ∙ was.items u.body _ E.body_is in cc
+
+  -- ---- room
+
+  -- all that may be put
+  abbrev pub mekr_tags : Tag → Tag → Tag → List Tag
+  mekr_tags e f g = (e ∷ f ∷ g ∷ u.loop_ ∷ []) ++ (with_attributes m (v.loop_ ∷ []) ++ (mekr_a ++ mekr_b))
+
+  pub mekr-counts : puts_of S (Mekr k r) ≡ 5 + length mekr_b + length mekr_a + length (attributes_on m v.loop_)
+  mekr-counts =
+      let dead = deaths-of m (v.loop_ ∷ []) at.sound (tt, tt) ((class.Loop, v_class, (λ c. cc)), tt) in
+      let own = length-append (attributes_on m v.loop_) [] in
+      let kept : length u.fins ≡ length mekr_b = ap length at.kept in
+      let joined : length v.fins ≡ length mekr_a = ap length at.joined in
+      let sum : puts_of_mekr S u v ≡ 5 + length mekr_b + length mekr_a + length (attributes_on m v.loop_) = omega (arith, dead, own, kept, joined) in
+      ap (if_found (λ p. if_found (puts_of_mekr S p) (end_at S r))) at.found ∙ ap (if_found (puts_of_mekr S u)) at.other ∙ sum
+
+  pub mekr-puts : (e f g : Tag) → puts_of S (Mekr k r) ≡ length (mekr_tags e f g)
+  mekr-puts e f g =
+      let all = length-append (e ∷ f ∷ g ∷ u.loop_ ∷ []) (with_attributes m (v.loop_ ∷ []) ++ (mekr_a ++ mekr_b)) in
+      let more = length-append (with_attributes m (v.loop_ ∷ [])) (mekr_a ++ mekr_b) in
+      let rings = length-append mekr_a mekr_b in
+      let own = length-append (attributes_on m v.loop_) [] in
+      let dead = length-append (v.loop_ ∷ []) (flat_map (attributes_on m) (v.loop_ ∷ [])) in
+      let counts = mekr-counts in
+      omega (arith, all, more, rings, own, dead, counts)
+
+  -- ---- the edge is made
+
+  -- the ring is given to the loop in m1, and the edge is put into m4
+  module _ (e f g : Tag) (once : NoRepeats (e ∷ f ∷ g ∷ [])) (free : AllByRecursion (λ t. get m t ≡ None) (e ∷ f ∷ g ∷ [])) (m1 m4 : EntityMap) (labels : Relabels m mekr_a u.loop_ m1)
+      (made : m4 ≡ with_edge m1 e f g u.body u.loop_ u.vertex v.vertex) where
+    abbrev news : List Tag
+    news = e ∷ f ∷ g ∷ []
+
+    abbrev ring : List Tag
+    ring = f ∷ mekr_a ++ g ∷ mekr_b
+
+    free_s : AllByRecursion (λ t. item_at S t ≡ None) news
+    free_s = ByRecursion-weaker (λ t. get m t ≡ None) (λ t. item_at S t ≡ None) (λ t h. free_item m at.sound t h) news free
+
+    -- what is live is none of the new ones
+    not_new : (t : Tag) (c : Class) → class_at S t ≡ Some c → NoneOf t news
+    not_new t c h =
+        let apart = λ (x : Tag) (none : item_at S x ≡ None) (same : t ≡ x). let both : None ≡ Some c = sym (ap (option_map class_of_item) none) ∙ ap (class_at S) (sym same) ∙ h in clash c both in
+        (apart e free_s.0, (apart f free_s.1.0, (apart g free_s.1.1.0, tt)))
+      where
+        clash : (d : Class) → None ≡ Some d → ⊥
+        clash d h = cc
+
+    m4-other : (t : Tag) → NoneOf t news → get m4 t ≡ get m1 t
+    m4-other t none = ap (λ x. get x t) made ∙ edge-other m1 e f g u.body u.loop_ u.vertex v.vertex once t none
+
+    m4-edge : get m4 e ≡ Some (entity.Edge u.body f)
+    m4-edge = ap (λ x. get x e) made ∙ edge-edge m1 e f g u.body u.loop_ u.vertex v.vertex once
+
+    m4-fin : get m4 f ≡ Some (entity.Fin u.loop_ f f g e u.vertex)
+    m4-fin = ap (λ x. get x f) made ∙ edge-fin m1 e f g u.body u.loop_ u.vertex v.vertex once
+
+    m4-mate : get m4 g ≡ Some (entity.Fin u.loop_ g g f e v.vertex)
+    m4-mate = ap (λ x. get x g) made ∙ edge-mate m1 e f g u.body u.loop_ u.vertex v.vertex once
+
+    -- a live fin keeps its links
+    m4-links : (t : Tag) → class_at S t ≡ Some class.Fin → (next_at m4 t ≡ next_at m t) × (prev_at m4 t ≡ prev_at m t)
+    m4-links t h =
+        let same = m4-other t (not_new t class.Fin h) in
+        let links = relabels-links m m1 mekr_a u.loop_ labels t in
+        (ap (λ (x : Option Entity). option_map (λ (y : FinFields). y.next) (option_and_then as_fin x)) same ∙ links.0, ap (λ (x : Option Entity). option_map (λ (y : FinFields). y.prev) (option_and_then as_fin x)) same ∙ links.1)
+
+    pub mekr-joined : (ring_of_any m4 at_r ≡ mekr_a) × IfSome at_r (IsInRing m4)
+    mekr-joined = ring_of_any-kept m m4 at_r at.joined_ring (λ t c. m4-links t (a-class t c))
+
+    pub mekr-kept : (ring_of_any m4 at_k ≡ mekr_b) × IfSome at_k (IsInRing m4)
+    mekr-kept = ring_of_any-kept m m4 at_k at.kept_ring (λ t c. m4-links t (b-class t c))
+
+    alone : (t mate vertex : Tag) → get m4 t ≡ Some (entity.Fin u.loop_ t t mate e vertex) → IsRing m4 (t ∷ [])
+    alone t mate vertex is = record {
+      once = (tt, tt);
+      linked = (
+        record {
+          next = ap (λ (x : Option Entity). option_map (λ (y : FinFields). y.next) (option_and_then as_fin x)) is;
+          prev = ap (λ (x : Option Entity). option_map (λ (y : FinFields). y.prev) (option_and_then as_fin x)) is;
+        },
+        tt,
+      );
+    }
+
+    pub mekr-fin_alone : IsRing m4 (f ∷ [])
+    mekr-fin_alone = alone f g u.vertex m4-fin
+
+    pub mekr-mate_alone : IsRing m4 (g ∷ [])
+    mekr-mate_alone = alone g f v.vertex m4-mate
+
+    -- no fin stands in the ring twice
+    pub mekr-once : NoRepeats ring
+    mekr-once =
+        let a_new = λ (t : Tag) (c : Contains mekr_a t). not_new t class.Fin (a-class t c) in
+        let b_new = λ (t : Tag) (c : Contains mekr_b t). not_new t class.Fin (b-class t c) in
+        let behind : NoRepeats (g ∷ mekr_b) = (ByRecursion-contains (λ t. g ≢ t) mekr_b (λ t c same. (b_new t c).1.1.0 (sym same)), b_ring.once) in
+        let apart : AllByRecursion (λ x. AllByRecursion (λ y. x ≢ y) (g ∷ mekr_b)) mekr_a = ByRecursion-contains (λ x. AllByRecursion (λ y. x ≢ y) (g ∷ mekr_b)) mekr_a
+        (λ x c. ((a_new x c).1.1.0, ByRecursion-contains (λ y. x ≢ y) mekr_b (λ y d same. not_both x c (subst (Contains mekr_b) (sym same) d)))) in (
+          ByRecursion-contains (λ t. f ≢ t) (mekr_a ++ g ∷ mekr_b) (λ t c same. ⊎_elim
+              (λ (i : Contains mekr_a t). (a_new t i).1.0 (sym same))
+              (λ (j : Contains (g ∷ mekr_b) t). ⊎_elim
+              (λ (h : g ≡ t). once.1.0.0 (same ∙ sym h))
+              (λ (h : Contains mekr_b t). (b_new t h).1.0 (sym same))
+              (contains_cases g mekr_b t j))
+              (Contains-append_cases mekr_a (g ∷ mekr_b) t c)),
+          NoRepeats-append mekr_a (g ∷ mekr_b) a_ring.once behind apart,
+        )
+
+    -- ---- the loops are joined
+
+    -- the rings are linked to one in m5, and the loop is put into n
+    module _ (m5 n : EntityMap) (joins : Relinks m4 (mekr_a ∷ mekr_b ∷ (f ∷ []) ∷ (g ∷ []) ∷ []) m5 ((f ∷ mekr_a ++ g ∷ mekr_b) ∷ [])) (least : Tag)
+        (least_is : first_tag (from_least (f ∷ mekr_a ++ g ∷ mekr_b)) ≡ Some least) (put : n ≡ with_entity m5 u.loop_ (Some (entity.Loop u.face (Some least) None))) where
+      abbrev xs : Items
+      xs = (e, Edge u.body) ∷ (f, Fin g e u.vertex) ∷ (g, Fin f e v.vertex) ∷ (u.loop_, Loop u.face (from_least ring) None) ∷ []
+
+      -- such a tag is of another loop, or no fin
+      m5-other : (t : Tag) → NoneOf t news → ¬ (Contains mekr_a t) → ¬ (Contains mekr_b t) → get m5 t ≡ get m1 t
+      m5-other t none no_a no_b =
+          joins.others t (no_a, (no_b, ((λ c. none.1.0 (sym (contains_only f t c))), ((λ c. none.1.1.0 (sym (contains_only g t c))), tt)))) ∙ m4-other t none
+
+      n-other : (t : Tag) → t ≢ u.loop_ → get n t ≡ get m5 t
+      n-other t other = ap (λ x. get x t) put ∙ get_other m5 u.loop_ (Some (entity.Loop u.face (Some least) None)) t other
+
+      n-loop : get n u.loop_ ≡ Some (entity.Loop u.face (first_tag (from_least ring)) None)
+      n-loop = ap (λ x. get x u.loop_) put ∙ get_put m5 u.loop_ (Some (entity.Loop u.face (Some least) None)) ∙ ap (λ o. Some (entity.Loop u.face o None)) (sym least_is)
+
+      not_l : (t : Tag) → get m t ≡ None → t ≢ u.loop_
+      not_l t none same = mekr-loop_live t none (sym same)
+
+      elsewhere : (t : Tag) → NoneOf t (tags_in xs) → IsSameElsewhere m n t
+      elsewhere t none =
+          ap (option_map unplaced) (n-other t none.1.1.1.0) ∙ relinks-elsewhere m4 m5 _ _ joins t
+          ∙ ap (option_map unplaced) (m4-other t (none.0, (none.1.0, (none.1.1.0, tt)))) ∙ relabels-elsewhere m m1 mekr_a u.loop_ labels t
+
+      n-fin : IsFinOf (get n f) g e u.vertex
+      n-fin =
+          let h = elsewhere-fin m4 m5 f g e u.vertex (relinks-elsewhere m4 m5 _ _ joins f) (u.loop_, f, f, m4-fin) in
+          (h.0, h.1, h.2, n-other f (not_l f free.1.0) ∙ h.3)
+
+      n-mate : IsFinOf (get n g) f e v.vertex
+      n-mate =
+          let h = elsewhere-fin m4 m5 g f e v.vertex (relinks-elsewhere m4 m5 _ _ joins g) (u.loop_, g, g, m4-mate) in
+          (h.0, h.1, h.2, n-other g (not_l g free.1.1.0) ∙ h.3)
+
+      n-edge : get n e ≡ Some (entity.Edge u.body f)
+      n-edge = n-other e (not_l e free.0) ∙ elsewhere-plain m4 m5 e (entity.Edge u.body f) (relinks-elsewhere m4 m5 _ _ joins e) refl m4-edge
+
+      -- an attribute there was one before
+      pub mekr-attribute : GainsNoAttribute m n
+      mekr-attribute o t (name, value, is) =
+          let here = λ (x : Tag) (y : Entity) (there : get n x ≡ Some y) (same : t ≡ x). let both : Some (entity.Attr o name value) ≡ Some y = sym is ∙ ap (get n) same ∙ there in both in
+          let old : NoneOf t (tags_in xs) = (
+            (λ same. let both = here e (entity.Edge u.body f) n-edge same in cc),
+            (
+              (λ same. let both = here f (entity.Fin n-fin.0 n-fin.1 n-fin.2 g e u.vertex) n-fin.3 same in cc),
+              (
+                (λ same. let both = here g (entity.Fin n-mate.0 n-mate.1 n-mate.2 f e v.vertex) n-mate.3 same in cc),
+                ((λ same. let both = here u.loop_ (entity.Loop u.face (first_tag (from_least ring)) None) n-loop same in cc), tt),
+              ),
+            ),
+          ) in
+          (name, value, elsewhere-plain n m t (entity.Attr o name value) (sym (elsewhere t old)) refl is)
+
+      -- ---- the ring dies
+
+      module _ (less : f.0 < g.0) (q : EntityMap) (kills : Kills n (v.loop_ ∷ []) q) where
+        abbrev killed : List Tag
+        killed = v.loop_ ∷ []
+
+        abbrev R : Shape
+        R = S with xs without killed
+
+        fin_lives : (t : Tag) → class_at S t ≡ Some class.Fin → NoneOf t killed
+        fin_lives t h = (class_apart S t v.loop_ class.Fin class.Loop h v_class (λ c. cc), tt)
+
+        fin_other : (t : Tag) → class_at S t ≡ Some class.Fin → t ≢ u.loop_
+        fin_other t h = class_apart S t u.loop_ class.Fin class.Loop h l_class (λ c. cc)
+
+        new_lives : NoneOf e killed × NoneOf f killed × NoneOf g killed
+        new_lives =
+            let none = not_new v.loop_ class.Loop v_class in
+            (((λ c. none.0 (sym c)), tt), ((λ c. none.1.0 (sym c)), tt), ((λ c. none.1.1.0 (sym c)), tt))
+
+        once_new : NoRepeats (tags_in xs)
+        once_new = (
+          (once.0.0, (once.0.1.0, (not_l e free.0, tt))),
+          ((once.1.0.0, (not_l f free.1.0, tt)), ((not_l g free.1.1.0, tt), (tt, tt))),
+        )
+
+        dead_apart : NoneOf v.loop_ (tags_in xs)
+        dead_apart = let none = not_new v.loop_ class.Loop v_class in (none.0, (none.1.0, (none.1.1.0, ((λ c. other_loop (sym c)), tt))))
+
+        plain : AllByRecursion (λ x. NotAttr (class_of_item x.1)) xs
+        plain = ((λ c. cc), ((λ c. cc), ((λ c. cc), ((λ c. cc), tt))))
+
+        ed : Edits S R xs killed
+        ed = edits S xs killed well.written.ascends once_new (tt, tt) (dead_apart, tt) plain
+
+        -- ---- the fins of the ring
+
+        in_ring : (t : Tag) → Contains ring t → (P : Type 0) → (f ≡ t → P) → (g ≡ t → P) → (Contains mekr_a t → P) → (Contains mekr_b t → P) → P
+        in_ring t c P on_f on_g on_a on_b = ⊎_elim on_f
+            (λ (i : Contains (mekr_a ++ g ∷ mekr_b) t). ⊎_elim on_a (λ (j : Contains (g ∷ mekr_b) t). ⊎_elim on_g on_b (contains_cases g mekr_b t j)) (Contains-append_cases mekr_a (g ∷ mekr_b) t i))
+            (contains_cases f (mekr_a ++ g ∷ mekr_b) t c)
+
+        -- each is as it was linked
+        fields : (t : Tag) → Contains ring t → fin_fields q t ≡ fin_fields m5 t
+        fields t c = ap (option_and_then as_fin) (kills.others t (in_ring t c (NoneOf t killed) (λ h. subst (λ x. NoneOf x killed) h new_lives.1) (λ h. subst (λ x. NoneOf x killed) h new_lives.2) (λ h. fin_lives t (a-class t h)) (λ h. fin_lives t (b-class t h))))
+            ∙ unless-fin killed (get n t)
+            ∙ ap (option_and_then as_fin) (n-other t (in_ring t c (t ≢ u.loop_) (λ h. subst (λ x. x ≢ u.loop_) h (not_l f free.1.0)) (λ h. subst (λ x. x ≢ u.loop_) h (not_l g free.1.1.0)) (λ h. fin_other t (a-class t h)) (λ h. fin_other t (b-class t h))))
+
+        q-ring : IsRing q ring
+        q-ring = ring-kept m5 q ring joins.rings.0 (λ t c. let same = fields t c in (ap (option_map (λ (x : FinFields). x.next)) same, ap (option_map (λ (x : FinFields). x.prev)) same))
+
+        abbrev named_by : Option Entity → Option Tag
+        named_by x = option_map (λ (y : FinFields). y.loop_) (option_and_then as_fin x)
+
+        m4-named : (t : Tag) → Contains ring t → loop_named m4 t ≡ Some u.loop_
+        m4-named t c = in_ring t c (loop_named m4 t ≡ Some u.loop_)
+            (λ h. subst (λ x. loop_named m4 x ≡ Some u.loop_) h (ap named_by m4-fin))
+            (λ h. subst (λ x. loop_named m4 x ≡ Some u.loop_) h (ap named_by m4-mate))
+            (λ h. ap named_by (m4-other t (not_new t class.Fin (a-class t h))) ∙ relabels-named m m1 mekr_a u.loop_ a_ring labels t h)
+            (λ h. ap named_by (m4-other t (not_new t class.Fin (b-class t h)) ∙ labels.others t (λ i. not_both t i h))
+            ∙ ByRecursion-at (λ x. loop_named m x ≡ Some u.loop_) E.list t (was.items u.loop_ _ E.loop_is).2 (b_list t h))
+
+        q-named : (t : Tag) → Contains ring t → loop_named q t ≡ Some u.loop_
+        q-named t c = ap (option_map (λ (x : FinFields). x.loop_)) (fields t c) ∙ relinks-named m4 m5 _ _ joins t ∙ m4-named t c
+
+        -- ---- what is written
+
+        stands : (t : Tag) (x : Entity) → NoneOf t killed → unless_on_any killed (Some x) ≡ Some x → get n t ≡ Some x → get q t ≡ Some x
+        stands t x live stays there = kills.others t live ∙ ap (unless_on_any killed) there ∙ stays
+
+        loop_shown : Shows R q u.loop_ (Loop u.face (from_least ring) None)
+        loop_shown = (
+          stands u.loop_ (entity.Loop u.face (first_tag (from_least ring)) None) (other_loop, tt) (unless-plain killed (entity.Loop u.face (first_tag (from_least ring)) None) (λ o. refl)) n-loop,
+          ring-least q ring q-ring,
+          ByRecursion-contains (λ t. loop_named q t ≡ Some u.loop_) (from_least ring) (λ t c. q-named t (least-in t ring c)),
+        )
+
+        edge_shown : Shows R q e (Edge u.body)
+        edge_shown = (
+          f,
+          stands e (entity.Edge u.body f) new_lives.0 (unless-plain killed (entity.Edge u.body f) (λ o. refl)) n-edge,
+          record {
+            mate = g;
+            vertex = u.vertex;
+            fin_is = ed.news f (Fin g e u.vertex) (1, omega arith, refl);
+            less = less;
+          },
+        )
+
+        fin_shown : Shows R q f (Fin g e u.vertex)
+        fin_shown = (n-fin.0, n-fin.1, n-fin.2, stands f _ new_lives.1 (unless-plain killed (entity.Fin n-fin.0 n-fin.1 n-fin.2 g e u.vertex) (λ o. refl)) n-fin.3)
+
+        mate_shown : Shows R q g (Fin f e v.vertex)
+        mate_shown = (n-mate.0, n-mate.1, n-mate.2, stands g _ new_lives.2 (unless-plain killed (entity.Fin n-mate.0 n-mate.1 n-mate.2 f e v.vertex) (λ o. refl)) n-mate.3)
+
+        shown : (t : Tag) (x : Item) → Contains xs (t, x) → Shows R q t x
+        shown t x c = ByRecursion-at (λ (y : Tag × Item). Shows R q y.0 y.1) xs (t, x) (edge_shown, (fin_shown, (mate_shown, (loop_shown, tt)))) c
+
+        -- ---- what stays
+
+        other_loops : (l face : Tag) (fins : List Tag) (vertex : Option Tag) → item_at S l ≡ Some (Loop face fins vertex) → NoneOf l (tags_in xs) → NoneOf l killed
+            → (t : Tag) → Contains fins t → NoneOf t killed × (get n t ≡ get m t)
+        other_loops l face fins vertex is none live t c =
+            let fin : class_at S t ≡ Some class.Fin = ap (option_map class_of_item) (fin_in S well.written well.sound l face fins vertex is t c).3 in
+            let no_a : ¬ (Contains mekr_a t) = λ h. live.0 (a_loop t h l face fins vertex is c) in
+            let no_b : ¬ (Contains mekr_b t) = λ h. none.1.1.1.0 (b_loop t h l face fins vertex is c) in
+            (fin_lives t fin, n-other t (fin_other t fin) ∙ m5-other t (not_new t class.Fin fin) no_a no_b ∙ labels.others t no_a)
+
+        other_edges : (t mate edge vertex : Tag) → item_at S t ≡ Some (Fin mate edge vertex) → NoneOf edge killed → NoneOf t (tags_in xs) × NoneOf t killed
+        other_edges t mate edge vertex is live =
+            let fin : class_at S t ≡ Some class.Fin = ap (option_map class_of_item) is in
+            let none = not_new t class.Fin fin in
+            ((none.0, (none.1.0, (none.1.1.0, (fin_other t fin, tt)))), fin_lives t fin)
+
+        -- ---- all
+
+        mekr-represents : Represents R q
+        mekr-represents = edited S m n q xs killed well was once_new (tt, tt) (dead_apart, tt) plain kills elsewhere other_loops other_edges shown
+
+        row_shape : (S with (e, Edge u.body) ∷ (f, Fin g e u.vertex) ∷ (g, Fin f e v.vertex) ∷ (u.loop_, ring_of u.face (f ∷ v.fins ++ g ∷ u.fins)) ∷ [] without killed) ≡ R
+        row_shape = λ i. S with (e, Edge u.body) ∷ (f, Fin g e u.vertex) ∷ (g, Fin f e v.vertex) ∷ (u.loop_, Loop u.face (from_least (f ∷ at.joined i ++ g ∷ at.kept i)) None) ∷ [] without killed
+
+        -- the map is that of the shape reached
+        pub mekr-reached : (tags more : List Tag) → tags ≡ e ∷ f ∷ g ∷ more → TagsAscend tags → AllByRecursion (λ t. get m t ≡ None) tags → q ≡ links (reached S tags (mekr S k r))
+        mekr-reached tags more is ascend unused =
+            let row = mekr-is S k r u v at.found at.other at.apart in
+            let shape : reached S tags (mekr S k r) ≡ R = ap (reached S tags) row ∙ ap (λ ts. reached S ts (joined_row S u v)) is ∙ row_shape in
+            let kept : Keeps tags (joined_row S u v) = subst (Keeps tags) row (mekr-keeps S tags k r well ascend (ByRecursion-weaker (λ t. get m t ≡ None) (λ t. item_at S t ≡ None) (λ t h. free_item m at.sound t h) tags unused)) in
+            let keeps : Keeps (e ∷ f ∷ g ∷ more) (joined_row S u v) = subst (λ ts. Keeps ts (joined_row S u v)) is kept in
+            represented R q (subst IsWell row_shape (keeps (omega arith))) mekr-represents ∙ ap links (sym shape)

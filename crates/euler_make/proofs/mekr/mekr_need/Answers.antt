@@ -1,0 +1,63 @@
+use Rattle.std.proofs.Common.{◌≡◌, ◌≤◌, false, refl, sym, ap, subst, ◌∙◌, arith}
+use Rattle.std.specs.Prelude.{IsOk}
+use Rattle.std.proofs.lemmas.Bool.{not-false}
+use Rattle.pk_base.specs.Entity.{same_tag}
+use Rattle.solid_model.specs.Euler.{cost_of, list_of}
+use Rattle.solid_model.specs.Places.{outer_at}
+use Rattle.solid_model.specs.Rows.{Row}
+use Rattle.solid_model.specs.Shapes.{shape_of}
+use Rattle.solid_calls.specs.LinkedRings.{ring_of_any}
+use Rattle.solid_calls.proofs.Sizes.{few-attributes, few-ring}
+use Rattle.euler_make.proofs.MekrReached.{AreApart, AreEnds, end_with, mekr-counts, mekr-is, ring-of_any}
+use Rattle.euler_make.proofs.mekr.mekr_need.Goals as goal
+
+pub overflow_add-result : goal.overflow_add-result
+overflow_add-result g c =
+    let s = c.args.store.now.state in
+    let kept = few-ring s c.blocks-2.ensures.ascending c.blocks-2.ensures.range c.blocks-2.ensures.hosted (ring_of_any s.map c.in_ok-u.u.first) (ring-of_any s.map c.in_ok-u.u.first c.in_ok-u.ensures.ring) in
+    omega (arith, kept, c.len_of_any-kept.ensures)
+
+pub overflow_add-result-2 : goal.overflow_add-result-2
+overflow_add-result-2 g c =
+    let s = c.args.store.now.state in
+    let kept = few-ring s c.blocks-2.ensures.ascending c.blocks-2.ensures.range c.blocks-2.ensures.hosted (ring_of_any s.map c.in_ok-u.u.first) (ring-of_any s.map c.in_ok-u.u.first c.in_ok-u.ensures.ring) in
+    let joined = few-ring s c.blocks-2.ensures.ascending c.blocks-2.ensures.range c.blocks-2.ensures.hosted (ring_of_any s.map c.in_ok-v.v.first) (ring-of_any s.map c.in_ok-v.v.first c.in_ok-v.ensures.ring) in
+    omega (arith, kept, joined, c.len_of_any-kept.ensures, c.len_of_any-joined.ensures)
+
+pub overflow_add-result-3 : goal.overflow_add-result-3
+overflow_add-result-3 g c =
+    let s = c.args.store.now.state in
+    let kept = few-ring s c.blocks-2.ensures.ascending c.blocks-2.ensures.range c.blocks-2.ensures.hosted (ring_of_any s.map c.in_ok-u.u.first) (ring-of_any s.map c.in_ok-u.u.first c.in_ok-u.ensures.ring) in
+    let joined = few-ring s c.blocks-2.ensures.ascending c.blocks-2.ensures.range c.blocks-2.ensures.hosted (ring_of_any s.map c.in_ok-v.v.first) (ring-of_any s.map c.in_ok-v.v.first c.in_ok-v.ensures.ring) in
+    let dead = few-attributes s c.blocks-2.ensures.ascending c.blocks-2.ensures.range c.blocks-2.ensures.hosted c.in_ok-v.v.loop_ in
+    omega (arith, kept, joined, dead, c.len_of_any-kept.ensures, c.len_of_any-joined.ensures, c.count_attributes-dead.ensures)
+
+pub returns : goal.returns
+returns g c =
+    let m = c.args.store.now.state.map in
+    let k = c.args.keep in
+    let r = c.args.ring in
+    let x = c.in_ok-u.u in
+    let y = c.in_ok-v.v in
+    let u = end_with x (ring_of_any m x.first) in
+    let v = end_with y (ring_of_any m y.first) in
+    let outer : same_tag v.loop_ (outer_at (shape_of m) v.face) ≡ false = ap (same_tag v.loop_) (sym c.in_ok-v.ensures.outer) ∙ sym c.if-eq-2.ensures in
+    let apart : AreApart (shape_of m) u v = record { face = not-false (same_tag u.face v.face) (sym c.if-ne.ensures); loops = sym c.if-eq.ensures; outer = outer; ends = sym c.if-eq-3.ensures } in
+    let at : AreEnds m k r u v x.first y.first = record {
+      sound = c.requires;
+      found = c.in_ok-u.ensures.found;
+      other = c.in_ok-v.ensures.found;
+      apart = apart;
+      kept = refl;
+      joined = refl;
+      kept_ring = c.in_ok-u.ensures.ring;
+      joined_ring = c.in_ok-v.ensures.ring;
+    } in
+    let is = sym (mekr-is (shape_of m) k r u v at.found at.other apart) in
+    let counts = mekr-counts m k r u v x.first y.first at in
+    record {
+      goes = subst (λ (o : Row). IsOk o) is refl;
+      tags = ap cost_of is;
+      changes = omega (arith, counts, c.len_of_any-kept.ensures, c.len_of_any-joined.ensures, c.count_attributes-dead.ensures);
+      list = subst (λ (o : Row). list_of o ≤ 3) is (omega arith);
+    }

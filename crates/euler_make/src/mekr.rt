@@ -1,0 +1,199 @@
+//! The operator mekr.
+ghost use Rattle.std.specs.Prelude.{◌≡◌, ◌≢◌, ◌≤◌, ◌∷◌, [], IfSome, IsTrue, length};
+ghost use Rattle.std.specs.List.{AllByRecursion};
+ghost use Rattle.pk_base.specs.declared.call.Call.TheVariants.{Mekr};
+ghost use Rattle.pk_model.specs.Tags.{owns};
+ghost use Rattle.entity_store.specs.NextTags.{left};
+ghost use Rattle.solid_model.specs.Sound.{IsSound};
+ghost use Rattle.solid_calls.specs.LinkedRings.{IsInRing, ring_of_any};
+ghost use Rattle.solid_calls.specs.Pairs.{HasDone, HasTags, MayDo, NeedsAsRow, Takes};
+ghost use Rattle.solid_calls.specs.Room.{HasRoomForThese, PutsAmong};
+ghost use Rattle.euler_make.specs.JoinedLoops.{with_edge};
+
+use attributes::count_attributes;
+use entity_store::{Need, Recorder, Steps, Store, Tags};
+use halfedge::{insert_pair, least_fin, ring_len};
+use pk_base::{Entity, Refusal, Tag, TagListBuilder};
+use solid_calls::take_tag;
+use solid_edits::{give_ring, kill};
+use solid_places::{End, end_at};
+use std::sync::ledger::Ledger;
+
+/// What `mekr_do` needs, or why it is refused. It takes no memory.
+pub fn mekr_need<L: Ledger>(
+    store: &Store,
+    keep: Tag,
+    ring: Tag,
+    steps: &mut Steps<L>,
+) -> Result<Need, Refusal>
+    requires { IsSound store.now.state.map }
+    ensures { NeedsAsRow store.now.state.map (Mekr keep ring) result }
+{
+    // There are few enough entities to count them.
+    store.blocks();
+    let u = end_at(store, keep, steps)?;
+    let v = end_at(store, ring, steps)?;
+    if u.face != v.face {
+        return Err(Refusal::NotOneFace(u.face, v.face));
+    }
+    if u.loop_ == v.loop_ {
+        return Err(Refusal::OneLoop(u.loop_));
+    }
+    if v.loop_ == v.outer {
+        return Err(Refusal::IsOuter(v.loop_));
+    }
+    if u.vertex == v.vertex {
+        return Err(Refusal::SameVertex(u.vertex));
+    }
+    let kept = len_of_any(store, u.first, steps);
+    let joined = len_of_any(store, v.first, steps);
+    let dead = count_attributes(store, v.loop_, steps);
+    Ok(Need {
+        tags: 3,
+        changes: 5 + kept + joined + dead,
+        list: 3,
+    })
+}
+
+/// Makes an edge between an end k in a loop L and an end r in a ring of the same face, which it
+/// kills.
+///
+/// An end is a fin, or a loop with a lone vertex. Before, L is `B` from k, and the ring is `A` from
+/// r, each empty where the end is a lone vertex. After, L is `f A m B`. f starts at the vertex of k,
+/// m at that of r, and they are mates. The ring dies with its attributes.
+///
+/// Takes, in this order: the edge, f, m.
+///
+/// Refuses, in this order: for k and then for r, a tag that is not live (`NoSuchTag`), one that is
+/// neither a fin nor a loop (`WrongClass`), and a loop with fins (`NotBare`); loops of different
+/// faces (`NotOneFace` with k's face and r's); ends in one loop (`OneLoop`); a ring that is the
+/// outer loop of the face (`IsOuter`); ends at one vertex (`SameVertex` with it). A refusal changes
+/// nothing.
+///
+/// `Kemr { fin: f }` undoes it.
+///
+/// In a face with the outer loop 70 of the fins `76` and `77`, and a ring 80 with the lone vertex
+/// 75, `Mekr { keep: 76, ring: 80 }` with 81 as the next tag takes 81 to 83. Then loop 70 is
+/// `76 77 82 83`.
+///
+/// Source: Mäntylä, An Introduction to Solid Modeling, 1988; the form is this project's own.
+pub fn mekr_do<L: Ledger>(
+    rec: &mut Recorder<'_>,
+    keep: Tag,
+    ring: Tag,
+    tags: &mut Tags<'_>,
+    out: &mut TagListBuilder,
+    steps: &mut Steps<L>,
+)
+    requires may { MayDo rec.old.store.now (Mekr keep ring) }
+    requires tags { HasTags rec.old.store.now 3 tags.old out.old }
+    ensures done { HasDone rec.old.store.now (Mekr keep ring) (left tags.old) rec.new.store.now }
+    ensures takes { Takes 3 tags.old out.old tags.new out.new }
+    ensures same_store { rec.new.store.ghost_name ≡ rec.old.store.ghost_name }
+{
+    // Each live entity stands in an owned block.
+    rec.view().blocks();
+    let Ok(u) = end_at(rec.view(), keep, steps) else {
+        unreachable!()
+    };
+    let Ok(v) = end_at(rec.view(), ring, steps) else {
+        unreachable!()
+    };
+    let new = take_edge(tags, out);
+    give_ring(rec, v.first, u.loop_, steps);
+    put_edge(rec, &new, &u, v.vertex, steps);
+    insert_pair(rec, u.first, v.first, new.fin, new.mate, steps);
+    let first = least_fin(rec, new.fin, steps);
+    let joined = Entity::Loop {
+        face: u.face,
+        first: Some(first),
+        lone: None,
+    };
+    rec.put(u.loop_, Some(joined), steps);
+    kill(rec, v.loop_, steps);
+}
+
+/// The tags of an edge and its fins.
+#[derive(Clone, Copy, Drop)]
+struct NewEdge {
+    edge: Tag,
+    fin: Tag,
+    mate: Tag,
+}
+
+/// How many fins the ring from this one on has, where there is one.
+fn len_of_any<L: Ledger>(store: &Store, first: Option<Tag>, steps: &mut Steps<L>) -> usize
+    requires { IfSome first (IsInRing store.now.state.map) }
+    ensures { result ≡ length (ring_of_any store.now.state.map first) }
+{
+    match first {
+        Some(fin) => ring_len(store, fin, steps),
+        None => 0,
+    }
+}
+
+/// Takes the next three tags, and lists them.
+fn take_edge(tags: &mut Tags<'_>, out: &mut TagListBuilder) -> NewEdge
+    requires enough { 3 ≤ length (left tags.old) }
+    requires spare { 3 ≤ out.old.spare }
+    ensures tags { left tags.old ≡ result.edge ∷ result.fin ∷ result.mate ∷ left tags.new }
+    ensures takes { Takes 3 tags.old out.old tags.new out.new }
+{
+    let edge = take_tag(tags, out);
+    let fin = take_tag(tags, out);
+    let mate = take_tag(tags, out);
+    NewEdge { edge, fin, mate }
+}
+
+/// Puts the edge and its fins, each a ring alone. The first starts at the end's vertex.
+fn put_edge<L: Ledger>(
+    rec: &mut Recorder<'_>,
+    new: &NewEdge,
+    end: &End,
+    to: Tag,
+    steps: &mut Steps<L>,
+)
+    requires owned { AllByRecursion (λ t. IsTrue (owns rec.old.store.now.state.blocks t))
+        (new.now.edge ∷ new.now.fin ∷ new.now.mate ∷ end.now.body ∷ end.now.loop_ ∷ []) }
+    requires edge { end.now.body ≢ new.now.edge }
+    requires fin { end.now.loop_ ≢ new.now.fin }
+    requires mate { end.now.loop_ ≢ new.now.mate }
+    requires room { HasRoomForThese rec.old.store.now.recording
+        (new.now.edge ∷ new.now.fin ∷ new.now.mate ∷ []) }
+    ensures state { rec.new.store.now.state ≡ record rec.old.store.now.state {
+      map = with_edge rec.old.store.now.state.map new.now.edge new.now.fin new.now.mate
+          end.now.body end.now.loop_ end.now.vertex to;
+    } }
+    ensures puts { PutsAmong (new.now.edge ∷ new.now.fin ∷ new.now.mate ∷ [])
+        rec.old.store.now rec.new.store.now }
+    ensures same_store { rec.new.store.ghost_name ≡ rec.old.store.ghost_name }
+{
+    let NewEdge { edge, fin, mate } = *new;
+    let loop_ = end.loop_;
+    rec.put(
+        edge,
+        Some(Entity::Edge {
+            body: end.body,
+            fin,
+        }),
+        steps,
+    );
+    let out = Entity::Fin {
+        loop_,
+        next: fin,
+        prev: fin,
+        mate,
+        edge,
+        vertex: end.vertex,
+    };
+    rec.put(fin, Some(out), steps);
+    let back = Entity::Fin {
+        loop_,
+        next: mate,
+        prev: mate,
+        mate: fin,
+        edge,
+        vertex: to,
+    };
+    rec.put(mate, Some(back), steps);
+}

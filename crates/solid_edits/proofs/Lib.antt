@@ -1,0 +1,15 @@
+-- In reading order.
+pub mod Going
+pub mod StaysRepresented
+pub mod Hosted
+pub mod RelinkedFins
+pub mod ReachedRows
+pub mod EditedMaps
+pub mod PlacedFins
+pub mod Puts
+pub mod KilledMaps
+pub mod Stages
+pub mod PartedRings
+pub mod PlacedAnew
+pub mod WrittenMaps
+pub mod LoopsAnew

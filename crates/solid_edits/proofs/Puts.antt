@@ -1,0 +1,30 @@
+-- Stores of which the map has changed: their blocks, and the tags that were put.
+use Rattle.std.proofs.Common.{◌≡◌, List, ◌++◌, sym, subst, ⊎_elim}
+use Rattle.std.specs.Prelude.{Contains, IsTrue}
+use Rattle.std.specs.List.{AllByRecursion}
+use Rattle.std.proofs.lemmas.List.Elements.{Contains-append_left, Contains-append_right, Contains-append_cases}
+use Rattle.pk_base.specs.declared.tag.Tag.{Tag}
+use Rattle.pk_model.specs.Maps.{EntityMap}
+use Rattle.pk_model.specs.Tags.{owns}
+use Rattle.pk_model.proofs.TagLists.{ByRecursion-at}
+use Rattle.entity_store.specs.Store.{Stored}
+use Rattle.solid_calls.specs.LinkedRings.{ends_of}
+use Rattle.solid_edits.proofs.EditedMaps.{ends-among}
+
+pub stored-is : (a b : Stored) (m : EntityMap) → a.blocks ≡ b.blocks → a.map ≡ m → a ≡ record b { map = m }
+stored-is a b m h k = λ i. record { blocks = h i; map = k i }
+
+-- a tag is owned still, where the blocks are the same
+pub owned-still : (a b : Stored) (t : Tag) → a.blocks ≡ b.blocks → IsTrue (owns b.blocks t) → IsTrue (owns a.blocks t)
+owned-still a b t h k = subst (λ bs. IsTrue (owns bs t)) (sym h) k
+
+-- each of these is among those
+pub each-among : (us ts : List Tag) → AllByRecursion (Contains ts) us → (t : Tag) → Contains us t → Contains ts t
+each-among us ts h t k = ByRecursion-at (Contains ts) us t h k
+
+-- the ends of two runs are among them
+pub both-ends_among : (xs ys ts : List Tag) → ((t : Tag) → Contains (xs ++ ys) t → Contains ts t) → (t : Tag) → Contains (ends_of xs ++ ends_of ys) t → Contains ts t
+both-ends_among xs ys ts h t k = h t (⊎_elim {C = Contains (xs ++ ys) t}
+    (λ (l : Contains (ends_of xs) t). Contains-append_left xs ys t (ends-among xs t l))
+    (λ (r : Contains (ends_of ys) t). Contains-append_right xs ys t (ends-among ys t r))
+    (Contains-append_cases (ends_of xs) (ends_of ys) t k))

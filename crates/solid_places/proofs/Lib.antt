@@ -1,0 +1,8 @@
+-- In reading order.
+pub mod Read
+pub mod Classes
+pub mod Around
+pub mod RingPlaces
+pub mod Kids
+pub mod TestBodies
+mod Told
