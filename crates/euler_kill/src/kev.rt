@@ -52,14 +52,14 @@ pub fn kev_need<L: Ledger>(store: &Store, fin: Tag, steps: &mut Steps<L>) -> Res
 ///
 /// Takes no tags and no memory.
 ///
-/// Refuses, in this order: a tag that is not live (`NoSuchTag`); one that is no fin (`WrongClass`); a
-/// fin after which its mate does not come at once (`NotStrut` with it). A refusal changes nothing:
-/// `kev_need` tells it.
+/// Refuses, in this order: a tag that is not live (`NoSuchTag`); one that is no fin (`WrongClass`);
+/// a fin after which its mate does not come at once (`NotStrut` with it). A refusal changes
+/// nothing: `kev_need` tells it.
 ///
 /// `Mev` at the first fin of A, or at the loop, undoes it, but for the tags and the attributes.
 ///
-/// In a loop 68 of the fins `72 73`, where 72 starts at 69, `Kev { fin: 72 }` kills 72, 73, their edge,
-/// and the vertex where 73 starts. Then loop 68 has no fins, and the lone vertex 69.
+/// In a loop 68 of the fins `72 73`, where 72 starts at 69, `Kev { fin: 72 }` kills 72, 73, their
+/// edge, and the vertex where 73 starts. Then loop 68 has no fins, and the lone vertex 69.
 ///
 /// Source: Mäntylä, An Introduction to Solid Modeling, 1988; the form is this project's own.
 pub fn kev_do<L: Ledger>(rec: &mut Recorder<'_>, fin: Tag, steps: &mut Steps<L>)

@@ -55,8 +55,8 @@ pub fn kvfs_need<L: Ledger>(store: &Store, body: Tag, steps: &mut Steps<L>) -> R
 ///
 /// `Mvfs` at the point of the vertex undoes it, but for the tags and the attributes.
 ///
-/// Source: Mäntylä, An Introduction to Solid Modeling, 1988 (kill vertex, face, solid); the form is
-/// this project's own.
+/// Source: Mäntylä, An Introduction to Solid Modeling, 1988 (kill vertex, face, solid); the form
+/// is this project's own.
 pub fn kvfs_do<L: Ledger>(rec: &mut Recorder<'_>, body: Tag, steps: &mut Steps<L>)
     requires { MayDo rec.old.store.now (Kvfs body) }
     ensures done { HasDone rec.old.store.now (Kvfs body) [] rec.new.store.now }

@@ -52,8 +52,8 @@ pub fn ringmove_need<L: Ledger>(
 ///
 /// `RingMove` to the face that had the ring undoes it.
 ///
-/// Source: Mäntylä, An Introduction to Solid Modeling, 1988 (move ring); the form is this project's
-/// own.
+/// Source: Mäntylä, An Introduction to Solid Modeling, 1988 (move ring); the form is this
+/// project's own.
 pub fn ringmove_do<L: Ledger>(rec: &mut Recorder<'_>, ring: Tag, to: Tag, steps: &mut Steps<L>)
     requires { MayDo rec.old.store.now (RingMove ring to) }
     ensures done { HasDone rec.old.store.now (RingMove ring to) [] rec.new.store.now }

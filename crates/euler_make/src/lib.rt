@@ -1,5 +1,5 @@
-//! The Euler operators that make (Mäntylä, An Introduction to Solid Modeling, 1988): for each, what
-//! it needs or why it is refused, and what it does.
+//! The Euler operators that make (Mäntylä, An Introduction to Solid Modeling, 1988): for each,
+//! what it needs or why it is refused, and what it does.
 #![tactic(auto)]
 
 pub use mef::{mef_do, mef_need};

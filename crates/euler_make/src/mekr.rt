@@ -59,8 +59,8 @@ pub fn mekr_need<L: Ledger>(
 /// kills.
 ///
 /// An end is a fin, or a loop with a lone vertex. Before, L is `B` from k, and the ring is `A` from
-/// r, each empty where the end is a lone vertex. After, L is `f A m B`. f starts at the vertex of k,
-/// m at that of r, and they are mates. The ring dies with its attributes.
+/// r, each empty where the end is a lone vertex. After, L is `f A m B`. f starts at the vertex of
+/// k, m at that of r, and they are mates. The ring dies with its attributes.
 ///
 /// Takes, in this order: the edge, f, m.
 ///

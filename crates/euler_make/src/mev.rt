@@ -57,14 +57,15 @@ pub fn mev_need<L: Ledger>(
 ///
 /// Takes, in this order: the vertex, the edge, out, back. It takes no memory.
 ///
-/// Refuses, in this order: for t, a tag that is not live (`NoSuchTag`), one that is neither a fin nor
-/// a loop (`WrongClass`), and a loop with fins (`NotBare`); the first of x, y and z that is outside
-/// the range of coordinates (`OutOfRange` with it). A refusal changes nothing: `mev_need` tells it.
+/// Refuses, in this order: for t, a tag that is not live (`NoSuchTag`), one that is neither a fin
+/// nor a loop (`WrongClass`), and a loop with fins (`NotBare`); the first of x, y and z that is
+/// outside the range of coordinates (`OutOfRange` with it). A refusal changes nothing: `mev_need`
+/// tells it.
 ///
 /// `Kev { fin: out }` undoes it.
 ///
-/// In a loop 68 with the lone vertex 69, `Mev { end: 68, .. }` with 70 as the next tag takes 70 to 73.
-/// Then loop 68 is `72 73`.
+/// In a loop 68 with the lone vertex 69, `Mev { end: 68, .. }` with 70 as the next tag takes 70 to
+/// 73. Then loop 68 is `72 73`.
 ///
 /// Source: Mäntylä, An Introduction to Solid Modeling, 1988; the form is this project's own.
 pub fn mev_do<L: Ledger>(

@@ -46,8 +46,8 @@ pub fn mfkrh_need<L: Ledger>(
 /// `Kfmrh` undoes it, with the face that had the ring as the one to keep and the new face as the
 /// one to kill.
 ///
-/// Source: Mäntylä, An Introduction to Solid Modeling, 1988 (make face, kill ring, hole); the form
-/// is this project's own.
+/// Source: Mäntylä, An Introduction to Solid Modeling, 1988 (make face, kill ring, hole); the
+/// form is this project's own.
 pub fn mfkrh_do<L: Ledger>(
     rec: &mut Recorder<'_>,
     ring: Tag,

@@ -49,8 +49,8 @@ pub fn mvfs_need<L: Ledger>(
 ///
 /// `Kvfs` of the body undoes it.
 ///
-/// Source: Mäntylä, An Introduction to Solid Modeling, 1988 (make vertex, face, solid); the form is
-/// this project's own.
+/// Source: Mäntylä, An Introduction to Solid Modeling, 1988 (make vertex, face, solid); the form
+/// is this project's own.
 pub fn mvfs_do<L: Ledger>(
     rec: &mut Recorder<'_>,
     at: Triple,

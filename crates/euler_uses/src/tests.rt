@@ -10,7 +10,7 @@ use std::alloc::Global;
 use std::process::Abort;
 use std::sync::ledger::Ledger;
 
-mod attributes;
+mod attribute;
 mod calls;
 mod check;
 mod dice;

@@ -1,7 +1,7 @@
 //! Rings of linked fins, in the store's map of entities: a fin is a half-edge, and names the fin
-//! that comes next in its loop and the one before (Mäntylä, An Introduction to Solid Modeling, 1988).
-//! Each call changes the rings that it names and nothing else, and takes no memory. The map need
-//! not be that of a sound solid between two calls.
+//! that comes next in its loop and the one before (Mäntylä, An Introduction to Solid Modeling,
+//! 1988). Each call changes the rings that it names and nothing else, and takes no memory. The map
+//! need not be that of a sound solid between two calls.
 #![tactic(auto)]
 
 pub use labels::relabel;

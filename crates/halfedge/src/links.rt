@@ -1,5 +1,5 @@
-//! The links between fins, and the one step of which each change of rings is made: what comes before
-//! two fins changes places.
+//! The links between fins, and the one step of which each change of rings is made: what comes
+//! before two fins changes places.
 ghost use Rattle.std.specs.Prelude.{◌≡◌, IsSome, IfSome, IfNone, ◌∷◌, []};
 ghost use Rattle.halfedge.specs.Splices.{Joins, SetsNext, SetsPrev, Splices, spliced};
 ghost use Rattle.solid_calls.specs.LinkedRings.{IsInRing, next_at, prev_at, mate_in};

@@ -49,8 +49,8 @@ pub fn insert_pair<L: Ledger>(
     splice(rec, out, back, steps);
 }
 
-/// Parts a ring at two of its fins. `from A to B` becomes the rings `from A x` and `to B y`, where x
-/// and y are each a ring alone before. It takes no memory.
+/// Parts a ring at two of its fins. `from A to B` becomes the rings `from A x` and `to B y`, where
+/// x and y are each a ring alone before. It takes no memory.
 pub fn split_ring<L: Ledger>(
     rec: &mut Recorder<'_>,
     from: Tag,

@@ -152,8 +152,8 @@ fn halves<'a>(rt: &impl Abort, all: &'a [Tag], n: usize) -> (&'a [Tag], &'a [Tag
 
 // ---- the calls
 
-/// Puts the first of all these fins and the one at the place `n` between the runs behind them, which
-/// are rings or empty, and compares the ring that they become.
+/// Puts the first of all these fins and the one at the place `n` between the runs behind them,
+/// which are rings or empty, and compares the ring that they become.
 fn insert<L: Ledger>(
     rt: &impl Abort,
     alloc: Global,

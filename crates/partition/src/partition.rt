@@ -289,7 +289,8 @@ impl<K: Modeller> Partition<K> {
     }
 
     /// Writes down that the act was short of tags and that no block was left: a draw read the
-    /// number `next`, above the last block. Nothing else changes, and without memory nothing at all.
+    /// number `next`, above the last block. Nothing else changes, and without memory nothing at
+    /// all.
     pub fn spent(&mut self, act: Act, next: u64) -> Result<(), NoMemory>
         requires held { IsSome self.old.state.holder }
         requires short { 0 < short K.modelling self.old.state act }

@@ -1,5 +1,5 @@
-//! The laws of `pk_model` and `pk_laws` hold for every modeller as it stands: its meaning is one, and
-//! it is what is asked of a modeller.
+//! The laws of `pk_model` and `pk_laws` hold for every modeller as it stands: its meaning is one,
+//! and it is what is asked of a modeller.
 ghost use Rattle.std.specs.Prelude.{◌≡◌, ℕ, List, [], ◌∷◌, Some, IsSome};
 ghost use Rattle.pk_base.specs.declared.tag.Tag.{Tag};
 ghost use Rattle.pk_base.specs.declared.act.Entry.{Entry};

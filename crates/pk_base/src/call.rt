@@ -3,9 +3,9 @@ ghost use Rattle.std.specs.Prelude.{◌≡◌, IfOk};
 use crate::{Axis, CornerList, Name, NoMemory, Tag, Triple};
 use std::alloc::Global;
 
-/// A call on the solids of a partition. The Euler operators are Mäntylä's (An Introduction to Solid
-/// Modeling, 1988), in forms of this project's own; an entity takes its tags in the order that is
-/// written here.
+/// A call on the solids of a partition. The Euler operators are Mäntylä's (An Introduction to
+/// Solid Modeling, 1988), in forms of this project's own; an entity takes its tags in the order
+/// that is written here.
 #[derive(Debug, Drop)]
 pub enum Call {
     /// Makes a body of one vertex, with its shell, face and loop. Each coordinate is from

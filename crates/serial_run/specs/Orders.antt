@@ -79,4 +79,5 @@ have_ended (own ∷ more) (s ∷ threads) = has_ended own s && have_ended more t
 
 -- whether a thread, if there is one, has been told all these lines of its own
 abbrev pub ended_by : List ScriptLine → Option (Bor Progress) → Bool
-ended_by own thread = option_map_or (λ (t : Bor Progress). has_ended own (thread_state t.now)) thread true
+ended_by own thread =
+    option_map_or (λ (t : Bor Progress). has_ended own (thread_state t.now)) thread true

@@ -1,7 +1,7 @@
--- mekr makes an edge between two loops of one face, and kills the one that is a ring (Mäntylä 1988:
--- make edge, kill ring). Its ends are k, which is kept, and r, in the ring: each a fin, or a loop
--- with a lone vertex. The loop of k is written B from k, that of r is written A from r; where an
--- end is a lone vertex, its list is empty.
+-- mekr makes an edge between two loops of one face, and kills the one that is a ring (Mäntylä
+-- 1988: make edge, kill ring). Its ends are k, which is kept, and r, in the ring: each a fin, or a
+-- loop with a lone vertex. The loop of k is written B from k, that of r is written A from r; where
+-- an end is a lone vertex, its list is empty.
 --
 --     before:  B                   after:  f A m B
 --              A, a ring                   the ring is gone

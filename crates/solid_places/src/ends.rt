@@ -24,9 +24,9 @@ pub struct End {
     pub first: Option<Tag>,
 }
 
-/// An end for a new edge: a fin, or a loop with a lone vertex. Refuses, in this order: a tag that is
-/// not live (`NoSuchTag`), one that is neither a fin's nor a loop's (`WrongClass`), and a loop with
-/// fins (`NotBare`). It takes no memory.
+/// An end for a new edge: a fin, or a loop with a lone vertex. Refuses, in this order: a tag that
+/// is not live (`NoSuchTag`), one that is neither a fin's nor a loop's (`WrongClass`), and a loop
+/// with fins (`NotBare`). It takes no memory.
 pub fn end_at<L: Ledger>(store: &Store, end: Tag, steps: &mut Steps<L>) -> Result<End, Refusal>
     requires { IsSound store.now.state.map }
     // The fins of the loop, written from the end, are the ring from it on; at a lone vertex there

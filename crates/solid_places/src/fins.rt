@@ -22,8 +22,8 @@ pub struct PlacedFin {
     pub body: Tag,
 }
 
-/// What a fin is, and where it stands. Refuses, in this order: a tag that is not live (`NoSuchTag`),
-/// and one that is no fin's (`WrongClass`). It takes no memory.
+/// What a fin is, and where it stands. Refuses, in this order: a tag that is not live
+/// (`NoSuchTag`), and one that is no fin's (`WrongClass`). It takes no memory.
 pub fn fin_at<L: Ledger>(
     store: &Store,
     fin: Tag,

@@ -1,7 +1,7 @@
 //! What an operand of a call on solids is, and what stands around it, read in a store: a body, a
-//! face, a loop, a fin, or an end for a new edge (Mäntylä, An Introduction to Solid Modeling, 1988).
-//! Each call refuses a tag that is not live or not of the class that is asked for, and takes no
-//! memory.
+//! face, a loop, a fin, or an end for a new edge (Mäntylä, An Introduction to Solid Modeling,
+//! 1988). Each call refuses a tag that is not live or not of the class that is asked for, and takes
+//! no memory.
 #![tactic(auto)]
 
 pub use ends::{End, end_at};

@@ -7,8 +7,8 @@ use Rattle.pk_model.specs.Modelling.{Outcome, MayBeAsked}
 use Rattle.solid_model.specs.Sound.{IsSound}
 use Rattle.solid_model.specs.Euler.{euler}
 
--- Wherever the call may be asked, the map that it leaves is sound: on a sound map, with enough tags,
--- which ascend and are not live.
+-- Wherever the call may be asked, the map that it leaves is sound: on a sound map, with enough
+-- tags, which ascend and are not live.
 abbrev pub KeepsSoundness : Call → Type 0
 KeepsSoundness c =
     (m : EntityMap) (tags : List Tag) (o : Outcome) → MayBeAsked euler m c tags

@@ -16,7 +16,8 @@ pub fn bodies_keep_soundness()
 
 /// The calls on attributes keep soundness.
 pub fn attributes_keep_soundness()
-    ensures set { (owner : Tag) (name : Name) (value : ℤ) → KeepsSoundness (SetAttr owner name value) }
+    ensures set { (owner : Tag) (name : Name) (value : ℤ)
+        → KeepsSoundness (SetAttr owner name value) }
     ensures drop { (owner : Tag) (name : Name) → KeepsSoundness (DropAttr owner name) }
 {}
 

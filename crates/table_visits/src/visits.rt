@@ -119,8 +119,8 @@ fn finish(
 }
 
 /// Visits the partition, if it is free: claims it, takes it out, writes that it claims it, draws a
-/// block if there is one left, writes that it releases it, puts it back and lets it go. `AllocError`
-/// comes only where an allocation fails.
+/// block if there is one left, writes that it releases it, puts it back and lets it go.
+/// `AllocError` comes only where an allocation fails.
 pub fn visit(
     table: &SessionTable<Sheet>,
     seat: &mut Seat<Sheet>,

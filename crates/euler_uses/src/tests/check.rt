@@ -413,8 +413,8 @@ fn count_alone(live: &[(Tag, Entity)], vertex: Tag) -> u32 {
     count
 }
 
-// ---- 8: the fins of an edge, their loops, faces and vertices, and the edge are of one body; a lone
-// vertex has the body of its loop
+// ---- 8: the fins of an edge, their loops, faces and vertices, and the edge are of one body; a
+// lone vertex has the body of its loop
 
 /// The body of the shell of a face.
 fn body_of_face<L: Ledger>(store: &Store, face: Tag, steps: &mut Steps<L>) -> Option<Tag> {

@@ -97,8 +97,16 @@ fn a_report_is_its_lines(rt: HostRuntime) -> Result<(), Fail> {
         Entry::Released(1),
     ]?;
     let text = report_of(alloc, lines, entries)?;
-    let wanted =
-        b"report 1 1\nthread 1\n3 locked\n4 made 65-69\n5 ended 1\npartition 1\nclaimed 1\ndid 1 mvfs 0 0 0\nreleased 1\nend\n";
+    let wanted = b"report 1 1\n\
+        thread 1\n\
+        3 locked\n\
+        4 made 65-69\n\
+        5 ended 1\n\
+        partition 1\n\
+        claimed 1\n\
+        did 1 mvfs 0 0 0\n\
+        released 1\n\
+        end\n";
     assert_eq!(rt; text.as_slice(), wanted.as_slice());
     Ok(())
 }
@@ -147,8 +155,15 @@ fn answers_have_their_forms(rt: HostRuntime) -> Result<(), Fail> {
         line(7, LineSaid::Answer(Reply::Is(attr))),
     ]?;
     let text = report_of(alloc, lines, Vec::new(alloc))?;
-    let wanted =
-        b"report 1 1\nthread 1\n3 went fresh 65 66 gone - changed 70-72\n4 refused 18 NotOurs 128\n5 marks at 82 64/0 70/64\n6 is fin loop 68 next 71 prev 72 mate 73 edge 74 vertex 69\n7 is attr owner 65 name k_top value -5\npartition 1\nend\n";
+    let wanted = b"report 1 1\n\
+        thread 1\n\
+        3 went fresh 65 66 gone - changed 70-72\n\
+        4 refused 18 NotOurs 128\n\
+        5 marks at 82 64/0 70/64\n\
+        6 is fin loop 68 next 71 prev 72 mate 73 edge 74 vertex 69\n\
+        7 is attr owner 65 name k_top value -5\n\
+        partition 1\n\
+        end\n";
     assert_eq!(rt; text.as_slice(), wanted.as_slice());
     Ok(())
 }

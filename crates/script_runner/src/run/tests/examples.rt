@@ -227,8 +227,21 @@ const KILLED_REPORT: &str = "report 1 1\n\
      released 1\n\
      end\n";
 
-const LAYOUT_SCRIPT: &str =
-    "# two bodies → one → none\r\n\r\n  session\t1 1\r\n# the one thread\nthread\r\n\tlock 1\r\n\n\t1  mvfs 0\t0 0\r\n\t1 mark \t\r\n\t# another one\r\n\t01 mvfs 001 -0 0\r\n\t1 goto 070\r\n   \t\n\t1 goto 64\r\nend";
+const LAYOUT_SCRIPT: &str = "# two bodies → one → none\r\n\
+     \r\n  \
+     session\t1 1\r\n\
+     # the one thread\n\
+     thread\r\n\
+     \tlock 1\r\n\
+     \n\
+     \t1  mvfs 0\t0 0\r\n\
+     \t1 mark \t\r\n\
+     \t# another one\r\n\
+     \t01 mvfs 001 -0 0\r\n\
+     \t1 goto 070\r\n   \
+     \t\n\
+     \t1 goto 64\r\n\
+     end";
 
 const LAYOUT_REPORT: &str = "report 1 1\n\
      thread 1\n\

@@ -1,4 +1,4 @@
-use Rattle.euler_uses.proofs.tests.attributes.attribute_set_back.Given as goal
+use Rattle.euler_uses.proofs.tests.attribute.attribute_set_back.Given as goal
 
 -- the ledger is that of the blank
 abbrev pub ghosts-play : goal.ghosts-play
