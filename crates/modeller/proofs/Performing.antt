@@ -22,7 +22,7 @@ use Rattle.solid_model.specs.Links.{links}
 use Rattle.solid_model.specs.Shapes.{shape_of}
 use Rattle.solid_model.specs.Room.{puts_of}
 use Rattle.solid_model.specs.Euler as all
-use Rattle.solid_model.specs.Euler.{cost_of, list_of, outcome_of, step_by}
+use Rattle.solid_model.specs.Euler.{cost_of, list_of, step_by}
 use Rattle.solid_calls.specs.Pairs.{HasDone, HasTags, MayDo, Takes, reached, row_on}
 use Rattle.solid_calls.proofs.NextTags.{takes-none}
 use Rattle.modeller.specs.Euler.{euler, is_done}

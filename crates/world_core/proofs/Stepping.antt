@@ -9,12 +9,11 @@ use Rattle.pk_base.specs.declared.act.Entry.{Entry}
 use Rattle.pk_base.specs.declared.act.Entry.TheVariants.{Claimed, Drew, Did, Spent, Released}
 use Rattle.pk_base.specs.declared.act.Reply.{Reply}
 use Rattle.pk_base.specs.declared.refusal.Refusal.{Refusal}
-use Rattle.pk_model.specs.State.{PartitionState}
 use Rattle.pk_model.specs.Modelling.{Modelling, IsModeller}
 use Rattle.pk_model.specs.Step.{step, Stepped}
 use Rattle.pk_model.specs.Replay.{drawn_block}
-use Rattle.partition.specs.Partition.{PartitionView, Appends, Stays}
-use Rattle.world_core.specs.Event.{Supply, UnlessNoMemory, entry_of, said_of, said_of_act, partition_of}
+use Rattle.partition.specs.Partition.{PartitionView, Stays}
+use Rattle.world_core.specs.Event.{Supply, entry_of, said_of, partition_of}
 use Rattle.world_core.specs.World.{WorldPartition, WorldState, Happening, Happens, partition_at, opened, world_step, with_entry, after_draw}
 use Rattle.world_core.specs.Doing.{Follows, Does, next_after}
 use Rattle.world_core.specs.Inside.{seen_as, world_of}

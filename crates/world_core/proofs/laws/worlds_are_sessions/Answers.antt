@@ -1,7 +1,6 @@
-use Rattle.std.proofs.Common.{◌≡◌, ℕ, ◌+◌, ◌-◌, ◌<◌, ◌++◌, length, ap, ◌∙◌, arith}
+use Rattle.std.proofs.Common.{◌≡◌, ◌+◌, ◌-◌, ◌<◌, ◌++◌, length, ap, ◌∙◌, arith}
 use Rattle.std.proofs.lemmas.List.FromFn.{get_or-map-range_with_len}
-use Rattle.pk_base.specs.declared.act.Entry.{Entry}
-use Rattle.world_core.specs.World.{WorldPartition, beginning, opened, partition_at}
+use Rattle.world_core.specs.World.{WorldPartition, beginning, opened}
 use Rattle.world_core.specs.Session.{journals_of}
 use Rattle.world_core.specs.Runs.{entries_on, world_after}
 use Rattle.world_core.proofs.Sessions.{beginning_session, counted, each_replays}

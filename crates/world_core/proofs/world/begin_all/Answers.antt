@@ -1,5 +1,4 @@
-use Rattle.std.proofs.Common.{◌≡◌, ◌++◌, ◌∷◌, [], map, arith, ◌≤◌, ap, ◌∙◌}
-use Rattle.world_core.specs.Inside.{seen_as}
+use Rattle.std.proofs.Common.{arith, ◌≤◌}
 use Rattle.world_core.proofs.Beginnings.{numbers_push, opened_push}
 use Rattle.world_core.proofs.world.begin_all.Goals as goal
 

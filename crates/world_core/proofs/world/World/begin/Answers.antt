@@ -1,7 +1,7 @@
-use Rattle.std.proofs.Common.{◌≡◌, ◌+◌, List, length, map, sym, ap, subst, ◌∙◌, arith}
+use Rattle.std.proofs.Common.{◌+◌, List, sym, ap, subst, ◌∙◌}
 use Rattle.std.specs.List.{range_with_len}
 use Rattle.world_core.specs.Event.{supply}
-use Rattle.world_core.specs.World.{WorldPartition, WorldState}
+use Rattle.world_core.specs.World.{WorldPartition}
 use Rattle.world_core.specs.Session.{IsSession}
 use Rattle.world_core.proofs.Sessions.{beginning_session}
 use Rattle.world_core.proofs.Beginnings.{count_made}

@@ -1,8 +1,7 @@
-use Rattle.std.proofs.Common.{◌≡◌, ◌+◌, ◌-◌, ◌<◌, length, sym, ap, ◌∙◌, arith}
+use Rattle.std.proofs.Common.{◌≡◌, ◌+◌, ◌-◌, ◌<◌, length, ap, ◌∙◌, arith}
 use Rattle.std.proofs.lemmas.List.{length-map}
 use Rattle.world_core.specs.World.{WorldState}
 use Rattle.world_core.specs.Inside.{seen_as}
-use Rattle.world_core.proofs.Sessions.{owns_below}
 use Rattle.world_core.proofs.Stepping.{number_at}
 use Rattle.world_core.proofs.world.World.partition.Goals as goal
 

@@ -1,13 +1,12 @@
-use Rattle.std.proofs.Common.{◌≡◌, ℕ, ◌+◌, ◌-◌, ◌<◌, ◌≤◌, length, map, refl, sym, ap, subst, ◌∙◌, arith}
+use Rattle.std.proofs.Common.{ℕ, ◌-◌, ◌<◌, ◌≤◌, length, map, refl, sym, ap, subst, ◌∙◌, arith}
 use Rattle.std.specs.Prelude.{slice_set}
 use Rattle.std.specs.List.{range_with_len}
 use Rattle.std.proofs.lemmas.List.{length-map, length-set}
-use Rattle.pk_model.specs.Modelling.{IsModeller}
 use Rattle.world_core.specs.Event.{supply, partition_of}
 use Rattle.world_core.specs.World.{WorldState, Happens}
 use Rattle.world_core.specs.Inside.{seen_as, world_of}
 use Rattle.world_core.proofs.Sessions.{happens_kept}
-use Rattle.world_core.proofs.Stepping.{blocks_below, does_step, numbers_stay, others_stay, blocks_after, replaced}
+use Rattle.world_core.proofs.Stepping.{blocks_below, does_step, numbers_stay, others_stay}
 use Rattle.world_core.proofs.world.World.step.Goals as goal
 
 pub do_event-answer-requires-clause-above : goal.do_event-answer-requires-clause-above
