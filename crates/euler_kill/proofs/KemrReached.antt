@@ -231,16 +231,12 @@ module _ (m : EntityMap) (f : Tag) (u w : PlacedFin) (at : IsOnBothSides m f u w
       ap (if_found (puts_of_kemr S f)) at.found ∙ sum
 
   -- and how many they are
-  pub kemr-counts : puts_of S (Kemr f) ≡ 5 + length (ring_at m f) + length (attributes_on m f) + length (attributes_on m u.mate) + length (attributes_on m u.edge)
+  -- what dies, the fins of the ring, and two loops
+  pub kemr-counts : puts_of S (Kemr f) ≡ 2 + length (ring_at m f) + length (with_attributes m (f ∷ u.mate ∷ u.edge ∷ []))
   kemr-counts =
-      let killed = f ∷ u.mate ∷ u.edge ∷ [] in
       let puts = kemr-puts f in
-      let own = length-append killed (flat_map (attributes_on m) killed) in
-      let all = length-append (with_attributes m killed) (u.loop_ ∷ f ∷ ring_at m f) in
-      let first = length-append (attributes_on m f) (flat_map (attributes_on m) (u.mate ∷ u.edge ∷ [])) in
-      let second = length-append (attributes_on m u.mate) (flat_map (attributes_on m) (u.edge ∷ [])) in
-      let third = length-append (attributes_on m u.edge) [] in
-      omega (arith, puts, own, all, first, second, third)
+      let all = length-append (with_attributes m (f ∷ u.mate ∷ u.edge ∷ [])) (u.loop_ ∷ f ∷ ring_at m f) in
+      omega (arith, puts, all)
 
   -- ---- the maps
 

@@ -15,12 +15,12 @@ use Rattle.solid_model.specs.Rows.{changes}
 use Rattle.solid_model.specs.Shapes.{shape_of}
 use Rattle.solid_model.specs.Sound.{IsSound}
 use Rattle.solid_sound.proofs.Lists.{same_itself, same_means}
-use Rattle.solid_calls.specs.Attributes.{attributes_on}
 use Rattle.solid_calls.specs.LinkedRings.{IsInRing, next_at, ring_at}
 use Rattle.solid_calls.specs.Pairs.{IsNeedOf}
+use Rattle.solid_edits.specs.Deaths.{with_attributes}
 use Rattle.solid_places.specs.declared.fins.PlacedFin.{PlacedFin as FoundFin}
 use Rattle.euler_kill.proofs.KevFound.{IsFound, kev-refused, kev-row, kev_changes, next-is, read_fin}
-use Rattle.euler_kill.proofs.KevRun.{kev-counts}
+use Rattle.euler_kill.proofs.KevRun.{dying, kev-counts}
 
 module _ (m : EntityMap) (sound : IsSound m) (f : Tag) (p w : FoundFin) (found : IsFound m f p) (also : IsFound m p.mate w) (ring : IsInRing m f)
     (next : Tag) (is : next_at m f ≡ Some next) where
@@ -37,14 +37,13 @@ module _ (m : EntityMap) (sound : IsSound m) (f : Tag) (p w : FoundFin) (found :
       true≢false (sym other ∙ ap not same))
 
   -- the mate comes next
-  pub kev-needs : not (same_tag next p.mate) ≡ false → (a b c d : ℕ) → a ≡ length (attributes_on m f) → b ≡ length (attributes_on m p.mate) → c ≡ length (attributes_on m p.edge) → d ≡ length (attributes_on m w.vertex)
-      → IsNeedOf m (call.Kev f) (record { tags = 0; changes = 7 + (a + b) + c + d; list = 0 })
-  kev-needs strut a b c d a_is b_is c_is d_is =
+  pub kev-needs : not (same_tag next p.mate) ≡ false → (dead : ℕ) → dead ≡ length (with_attributes m (dying f p w)) → IsNeedOf m (call.Kev f) (record { tags = 0; changes = 3 + dead; list = 0 })
+  kev-needs strut dead dead_is =
       let same = same_means next p.mate (not-false _ strut) in
       let row : kev S f ≡ changes (kev_changes S f (read_fin m f p) (read_fin m p.mate w)) = kev-row S f (read_fin m f p) (read_fin m p.mate w) found also (sym next_same ∙ same) in
       record {
         goes = subst IsOk (sym row) refl;
         tags = sym (ap cost_of row);
-        changes = omega (arith, kev-counts m sound f p w found also);
+        changes = omega (arith, dead_is, kev-counts m sound f p w found also);
         list = let none : list_of (kev S f) ≡ 0 = ap list_of row in omega (arith, none);
       }

@@ -16,7 +16,7 @@ use Rattle.pk_base.specs.declared.entity.Entity.TheVariants as entity
 use Rattle.pk_model.specs.Apart.{NoRepeats}
 use Rattle.pk_model.specs.Maps.{EntityMap, with_entity}
 use Rattle.pk_model.specs.Tags.{owns}
-use Rattle.pk_model.proofs.TagLists.{ByRecursion-at, contains_only}
+use Rattle.pk_model.proofs.TagLists.{ByRecursion-weaker, contains_only}
 use Rattle.entity_store.specs.Recording.{HasRoomFor}
 use Rattle.entity_store.specs.Store.{IsHosted, Stored, StoreView}
 use Rattle.entity_store.proofs.FirstValues.{get_put, get_other}
@@ -39,7 +39,6 @@ use Rattle.solid_sound.proofs.FinRings.{RingOf, lone_for, ring_or_lone-is}
 use Rattle.solid_sound.proofs.Reading.{vertex_of_class}
 use Rattle.solid_sound.proofs.KeptKev.{kev-keeps}
 use Rattle.solid_sound.proofs.RowKeeps.{IsWell, well-shape, sound-links}
-use Rattle.solid_calls.specs.Attributes.{attributes_on}
 use Rattle.solid_calls.specs.LinkedRings.{IsInRing, IsRing, Relinks, ends_of, mate_in, next_at, ring_at}
 use Rattle.solid_calls.specs.Pairs.{HasDone, MayDo, reached}
 use Rattle.solid_calls.specs.Room.{HasRoomForThese, PutsAmong}
@@ -52,8 +51,8 @@ use Rattle.solid_edits.proofs.EditedMaps.{length-ends}
 use Rattle.solid_edits.proofs.ReachedRows.{only-put, only-then, same-blocks}
 use Rattle.solid_calls.proofs.Kept.{reached-well}
 use Rattle.solid_edits.proofs.RelinkedFins.{attr-fields}
-use Rattle.solid_edits.specs.Deaths.{Dies, Kills, with_attributes}
-use Rattle.solid_edits.proofs.KilledMaps.{GainsNoAttribute, death-among, dies-attribute, kills-more, kills-one, with_attributes-own}
+use Rattle.solid_edits.specs.Deaths.{Kills, with_attributes}
+use Rattle.solid_edits.proofs.KilledMaps.{GainsNoAttribute, kills-attribute, with_attributes-own, with_attributes-within}
 use Rattle.euler_kill.proofs.KevFound.{IsFound, after_mate, before_is, f_is, from_is, goes-strut, has-next, kev-row, kev_changes, mate_among, mate_found, mate_is, mate_other, read_fin, ring_is, ring_of_loop}
 use Rattle.euler_kill.proofs.KevReached.{dying-once, kev-represents}
 
@@ -73,10 +72,6 @@ class_in o = option_map class_of_item o
 -- where the fin starts
 start-found : (S : Shape) (t mate edge vertex : Tag) → item_at S t ≡ Some (Fin mate edge vertex) → start_at S t ≡ vertex
 start-found S t mate edge vertex h = ap (λ (o : Option Item). option_map_or vertex_of o (tag 0)) h
-
--- what is said of four lists, end to end
-length-four : (a b c d : List Tag) → length (a ++ (b ++ (c ++ (d ++ [])))) ≡ ((length a + length b) + length c) + length d
-length-four a b c d = omega (arith, length-append a (b ++ (c ++ (d ++ []))), length-append b (c ++ (d ++ [])), length-append c (d ++ []), length-append d [])
 
 module _ (m0 : EntityMap) (sound : IsSound m0) (f : Tag) (p w : FoundFin) (found : IsFound m0 f p) (also : IsFound m0 p.mate w) where
   abbrev S : Shape
@@ -109,9 +104,9 @@ module _ (m0 : EntityMap) (sound : IsSound m0) (f : Tag) (p w : FoundFin) (found
       let die = deaths-of m0 (dying f p w) sound dying-are_once dying-are_owners in
       omega (arith, here, start, die)
 
-  pub kev-counts : puts_of S (call.Kev f)
-      ≡ 7 + (((length (attributes_on m0 f) + length (attributes_on m0 p.mate)) + length (attributes_on m0 p.edge)) + length (attributes_on m0 w.vertex))
-  kev-counts = kev-puts ∙ ap (λ n. 7 + n) (length-four (attributes_on m0 f) (attributes_on m0 p.mate) (attributes_on m0 p.edge) (attributes_on m0 w.vertex))
+  -- what dies, and three more
+  pub kev-counts : puts_of S (call.Kev f) ≡ 3 + length (with_attributes m0 (dying f p w))
+  kev-counts = let all = kev-puts in omega (arith, all, length-append (dying f p w) (all_attributes m0 (dying f p w)))
 
 -- ---- lists
 
@@ -230,17 +225,11 @@ module _ {old : StoreView} {f : Tag} {p w : FoundFin} {next : Tag} (r : IsReady 
   ends-in : (t : Tag) → Contains (ends_of A) t → Contains all t
   ends-in t h = contains_later p.loop_ (ends_of A ++ with_attributes m0 killed) t (Contains-append_left (ends_of A) (with_attributes m0 killed) t h)
 
-  pub f-dies : Contains killed f
+  f-dies : Contains killed f
   f-dies = (0, omega arith, refl)
 
-  pub mate-dies : Contains killed p.mate
+  mate-dies : Contains killed p.mate
   mate-dies = (1, omega arith, refl)
-
-  pub edge-dies : Contains killed p.edge
-  edge-dies = (2, omega arith, refl)
-
-  pub vertex-dies : Contains killed w.vertex
-  vertex-dies = (3, omega arith, refl)
 
   loop-in : (t : Tag) → Contains (p.loop_ ∷ []) t → Contains all t
   loop-in t h = subst (Contains all) (contains_only p.loop_ t h) (contains_first p.loop_ (ends_of A ++ with_attributes m0 killed))
@@ -311,17 +300,18 @@ module _ {old : StoreView} {f : Tag} {p w : FoundFin} {next : Tag} (r : IsReady 
         ),
       )
 
-  pub kill-owned : (s : StoreView) → IsAfter s → (k : Tag) → Contains killed k → IsTrue (owns s.state.blocks k)
-  kill-owned s h k among = owned-now s h k (ByRecursion-at (λ t. IsTrue (owns old.state.blocks t)) killed k dying-owned among)
+  killed-in : (s : StoreView) → IsAfter s → (t : Tag) → Contains (with_attributes s.state.map killed) t → Contains all t
+  killed-in s h t j = dead-in t (with_attributes-within m0 s.state.map killed killed (λ u k. k) (λ o u k is. h.attributes o u is) t j)
 
-  kill-in : (s : StoreView) → IsAfter s → (k : Tag) → Contains killed k → (t : Tag) → Contains (k ∷ attributes_on s.state.map k) t → Contains all t
-  kill-in s h k among t j = dead-in t (death-among m0 s.state.map killed k h.attributes among t j)
+  pub kill-owned : (s : StoreView) → IsAfter s → (ts : List Tag) → ts ≡ killed → AllByRecursion (λ t. IsTrue (owns s.state.blocks t)) ts
+  kill-owned s h ts is =
+      subst (AllByRecursion (λ t. IsTrue (owns s.state.blocks t))) (sym is)
+      (ByRecursion-weaker (λ t. IsTrue (owns old.state.blocks t)) (λ t. IsTrue (owns s.state.blocks t)) (owned-now s h) killed dying-owned)
 
-  pub kill-room : (s : StoreView) → IsAfter s → (k : Tag) → Contains killed k → HasRoomForThese s.recording (k ∷ attributes_on s.state.map k)
-  kill-room s h k among = room-part s.recording all _ (room-now s h) (kill-in s h k among)
-
-  pub after-kill : (s t : StoreView) → IsAfter s → (k : Tag) → Contains killed k → Dies s.state.map k t.state.map → t.state ≡ record s.state { map = t.state.map } → PutsAmong (k ∷ attributes_on s.state.map k) s t → IsAfter t
-  after-kill s t h k among kills state puts = after-then s t h state (k ∷ attributes_on s.state.map k) puts (kill-in s h k among) (dies-attribute s.state.map t.state.map k kills)
+  pub kill-room : (s : StoreView) → IsAfter s → (ts : List Tag) → ts ≡ killed → HasRoomForThese s.recording (with_attributes s.state.map ts)
+  kill-room s h ts is =
+      subst (λ us. HasRoomForThese s.recording (with_attributes s.state.map us)) (sym is)
+      (room-part s.recording all (with_attributes s.state.map killed) (room-now s h) (killed-in s h))
 
   -- ---- the loop
 
@@ -388,22 +378,23 @@ module _ {old : StoreView} {f : Tag} {p w : FoundFin} {next : Tag} (r : IsReady 
 
       -- ---- all
 
-      module _ (s3 s4 s5 s6 : StoreView) (k3 : Dies s2.state.map f s3.state.map) (k4 : Dies s3.state.map p.mate s4.state.map)
-          (k5 : Dies s4.state.map p.edge s5.state.map) (k6 : Dies s5.state.map w.vertex s6.state.map) (h : IsAfter s6) where
+      module _ (s3 : StoreView) (ts : List Tag) (is : ts ≡ killed) (kills3 : Kills s2.state.map ts s3.state.map) (state3 : s3.state ≡ record s2.state { map = s3.state.map })
+          (puts3 : PutsAmong (with_attributes s2.state.map ts) s2 s3) where
         abbrev R : Shape
         R = S0 with (p.loop_, Loop p.face (from_least A) (lone_for A p.vertex)) ∷ [] without killed
 
-        kills : Kills s2.state.map killed s6.state.map
-        kills =
-            let one = kills-one s5.state.map s6.state.map w.vertex k6 in
-            let two = kills-more s4.state.map s5.state.map s6.state.map p.edge (w.vertex ∷ []) k5 one in
-            let three = kills-more s3.state.map s4.state.map s6.state.map p.mate (p.edge ∷ w.vertex ∷ []) k4 two in
-            kills-more s2.state.map s3.state.map s6.state.map f (p.mate ∷ p.edge ∷ w.vertex ∷ []) k3 three
+        kills : Kills s2.state.map killed s3.state.map
+        kills = subst (λ us. Kills s2.state.map us s3.state.map) is kills3
 
-        shows : Represents R s6.state.map
+        after-kills : IsAfter s3
+        after-kills =
+            after-then s2 s3 after-put state3 (with_attributes s2.state.map killed) (subst (λ us. PutsAmong (with_attributes s2.state.map us) s2 s3) is puts3)
+            (killed-in s2 after-put) (kills-attribute s2.state.map s3.state.map killed kills)
+
+        shows : Represents R s3.state.map
         shows =
-            kev-represents S0 well f p.mate p.edge p.vertex w.vertex p.loop_ p.face of_loop.0 A fin_item mate_item of_loop.1 m0 m1 s6.state.map rep relinks
-            (subst (λ m. Kills m killed s6.state.map) map2 kills)
+            kev-represents S0 well f p.mate p.edge p.vertex w.vertex p.loop_ p.face of_loop.0 A fin_item mate_item of_loop.1 m0 m1 s3.state.map rep relinks
+            (subst (λ m. Kills m killed s3.state.map) map2 kills)
 
         abbrev row : Row
         row = kev S0 f
@@ -419,9 +410,9 @@ module _ {old : StoreView} {f : Tag} {p w : FoundFin} {next : Tag} (r : IsReady 
             let cost : cost_of row ≡ 0 = ap cost_of row_is in
             subst IsWell reaches (reached-well S0 [] row well (omega (arith, cost)) (kev-keeps S0 [] f well))
 
-        pub kev-done : HasDone old (call.Kev f) [] s6
+        pub kev-done : HasDone old (call.Kev f) [] s3
         kev-done = record {
-          state = h.state ∙ ap (λ m. record old.state { map = m }) (represented R s6.state.map well_now shows ∙ ap links (sym reaches));
-          sound = subst IsSound (sym (represented R s6.state.map well_now shows)) (sound-links R well_now);
-          records = records-of all (puts_of S0 (call.Kev f)) old s6 h.puts length-all;
+          state = after-kills.state ∙ ap (λ m. record old.state { map = m }) (represented R s3.state.map well_now shows ∙ ap links (sym reaches));
+          sound = subst IsSound (sym (represented R s3.state.map well_now shows)) (sound-links R well_now);
+          records = records-of all (puts_of S0 (call.Kev f)) old s3 after-kills.puts length-all;
         }

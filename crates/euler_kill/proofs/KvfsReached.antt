@@ -1,5 +1,5 @@
 -- kvfs: what the row reaches, and the map once the five parts and their attributes were killed.
-use Rattle.std.proofs.Common.{◌≡◌, ◌≢◌, ⊎_elim, Bool, false, not, ◌||◌, List, [], ◌∷◌, Option, Some, None, refl, sym, ap, subst, ◌∙◌}
+use Rattle.std.proofs.Common.{◌≡◌, ◌≢◌, ⊎_elim, Bool, false, not, ◌||◌, List, [], Option, Some, None, refl, sym, ap, subst, ◌∙◌}
 use Rattle.std.specs.Prelude.{ℤ, IsOk, Contains}
 use Rattle.std.specs.FinMap.{get}
 use Rattle.pk_base.specs.declared.tag.Tag.{Tag}
@@ -20,7 +20,7 @@ use Rattle.solid_model.specs.Links.{links}
 use Rattle.solid_model.specs.Shapes.{shape_of}
 use Rattle.solid_model.specs.Sound.{IsSound}
 use Rattle.pk_base.specs.declared.entity.Point.{Point}
-use Rattle.solid_sound.proofs.Lists.{contains_cases, is_among-in, not_among, neither_from}
+use Rattle.solid_sound.proofs.Lists.{is_among-in, not_among, neither_from}
 use Rattle.solid_sound.proofs.Lookups.{filter-kept}
 use Rattle.solid_sound.proofs.Found.{filter-lost, filter-none, same_or_other}
 use Rattle.solid_sound.proofs.RowKeeps.{IsWell, Keeps, not_refused, well-shape}
@@ -29,9 +29,8 @@ use Rattle.entity_store.specs.Store.{StoreView}
 use Rattle.solid_edits.specs.BareParts.{AreBareParts, tags_of_parts}
 use Rattle.solid_edits.specs.declared.bare_parts.BareParts.{BareParts}
 use Rattle.solid_edits.proofs.Going.{goes-on, goes-past}
-use Rattle.solid_calls.specs.Attributes.{attributes_on}
-use Rattle.solid_edits.specs.Deaths.{Dies, Kills}
-use Rattle.solid_edits.proofs.KilledMaps.{GainsNoAttribute, IsAttributeIn, LivesOn, attribute-in, dies-attribute, kills-dead, kills-none, kills-owned, kills-stays, shown-attribute}
+use Rattle.solid_edits.specs.Deaths.{Kills, with_attributes}
+use Rattle.solid_edits.proofs.KilledMaps.{IsAttributeIn, LivesOn, kills-dead, kills-none, kills-owned, kills-stays, shown-attribute, with_attributes-cases}
 use Rattle.solid_sound.proofs.Changed.{NoneOf}
 use Rattle.euler_kill.proofs.KvfsParts.{IsBare, is-bare, item-found, attribute-body, body-part, shell-part, face-part, loop-part, vertex-part, no-fin, owner-part, part-or_attribute}
 use Rattle.solid_calls.proofs.Represented.{Represents, represented, represents-sound}
@@ -153,9 +152,6 @@ has-parts m sound p are =
 
 -- ---- what is put is of the body
 
-pub fewer-then : (m n k : EntityMap) (killed : Tag) → GainsNoAttribute m n → Dies n killed k → GainsNoAttribute m k
-fewer-then m n k killed h dies = λ o t is. h o t (dies-attribute n k killed dies o t is)
-
 module _ (m : EntityMap) (sound : IsSound m) (p : BareParts) (are : AreBareParts (shape_of m) p) where
   part_among : (t : Tag) → Contains (tags_of_parts p) t → Contains (all_in_body (shape_of m) p.body) t
   part_among t k =
@@ -179,13 +175,11 @@ module _ (m : EntityMap) (sound : IsSound m) (p : BareParts) (are : AreBareParts
       let item = item-found m t (entity.Attr o name value) is in
       in_body-among S p.body t _ item (attribute-body S well t o name value item ∙ among-in_body S p.body o well.written.ascends (part_among o k))
 
-  -- a part and the attributes that it still has
-  pub kill-among : (b : Tag) → p.body ≡ b → (n : EntityMap) → GainsNoAttribute m n → (o : Tag) → Contains (tags_of_parts p) o → (t : Tag) → Contains (o ∷ attributes_on n o) t → Contains (all_in_body (shape_of m) b) t
-  kill-among b same n fewer o k t c =
+  -- the parts, and their attributes
+  pub dead-among : (b : Tag) → p.body ≡ b → (t : Tag) → Contains (with_attributes m (tags_of_parts p)) t → Contains (all_in_body (shape_of m) b) t
+  dead-among b same t c =
       subst (λ u. Contains (all_in_body (shape_of m) u) t) same
-      (⊎_elim (λ (e : o ≡ t). subst (λ u. Contains (all_in_body (shape_of m) p.body) u) e (part_among o k))
-      (λ (r : Contains (attributes_on n o) t). on_among o k t (fewer o t (attribute-in n o t r)))
-      (contains_cases o (attributes_on n o) t c))
+      (with_attributes-cases m (tags_of_parts p) t c (Contains (all_in_body (shape_of m) p.body) t) (part_among t) (λ o k is. on_among o k t is))
 
 -- what is found of the parts in a store that is lent
 pub parts-seen : (v s : StoreView) → v ≡ s → (p : BareParts) → AreBareParts (shape_of v.state.map) p → AreBareParts (shape_of s.state.map) p

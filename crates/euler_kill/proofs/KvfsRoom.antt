@@ -1,7 +1,6 @@
 -- kvfs: no more stands in a body of one vertex than its five parts and their attributes.
-use Rattle.std.proofs.Common.{◌≡◌, ◌≢◌, ◌+◌, ◌≤◌, ⊎_elim, List, [], ◌∷◌, length, Some, sym, ap, ◌∙◌, length-append, arith}
+use Rattle.std.proofs.Common.{◌≡◌, ◌≢◌, ◌≤◌, ⊎_elim, List, [], ◌∷◌, length, Some, sym, ap, ◌∙◌}
 use Rattle.std.specs.Prelude.{T, ℤ, map, filter, Contains}
-use Rattle.std.specs.List.{flat_map}
 use Rattle.std.specs.FinMap.{is_sorted}
 use Rattle.std.specs.FinMap.Entries.{below_all}
 use Rattle.pk_base.specs.Entity.{same_tag}
@@ -21,7 +20,6 @@ use Rattle.solid_sound.proofs.Found.{among-item}
 use Rattle.solid_sound.proofs.Reading.{below_all-differs}
 use Rattle.solid_sound.proofs.RowKeeps.{well-shape}
 use Rattle.solid_sound.proofs.KeptDeaths.{among-in_body}
-use Rattle.solid_calls.specs.Attributes.{attributes_on}
 use Rattle.solid_edits.specs.BareParts.{AreBareParts, tags_of_parts}
 use Rattle.solid_edits.specs.declared.bare_parts.BareParts.{BareParts}
 use Rattle.solid_edits.specs.Deaths.{with_attributes}
@@ -64,23 +62,7 @@ module _ (m : EntityMap) (sound : IsSound m) (p : BareParts) (are : AreBareParts
       with_attributes-on m ks a.0 t own (a.1, a.2, (represents-sound m sound).items t (Attr a.0 a.1 a.2) (here ∙ ap Some a.3)))
       (part-or_attribute S well p are bare t y.0.1 here at)
 
-  fewer : length (all_in_body S p.body) ≤ length listed
-  fewer = no_more-different (all_in_body S p.body) listed
+  pub few-in_body : length (all_in_body S p.body) ≤ length listed
+  few-in_body = no_more-different (all_in_body S p.body) listed
       (once-sorted (filter (λ x. same_tag (body_of S x.0) p.body) S) (filter-sorted (λ x. same_tag (body_of S x.0) p.body) S (well-shape m sound).written.ascends))
       (ByRecursion-contains (Contains listed) (all_in_body S p.body) among_listed)
-
-  pub few-in_body : length (all_in_body S p.body)
-      ≤ length (attributes_on m p.body) + length (attributes_on m p.shell) + length (attributes_on m p.face) + length (attributes_on m p.loop_) + length (attributes_on m p.vertex) + 5
-  few-in_body =
-      let a = attributes_on m in
-      let f = fewer in
-      omega (
-        arith,
-        f,
-        length-append ks (flat_map a ks),
-        length-append (a p.body) (flat_map a (p.shell ∷ p.face ∷ p.loop_ ∷ p.vertex ∷ [])),
-        length-append (a p.shell) (flat_map a (p.face ∷ p.loop_ ∷ p.vertex ∷ [])),
-        length-append (a p.face) (flat_map a (p.loop_ ∷ p.vertex ∷ [])),
-        length-append (a p.loop_) (flat_map a (p.vertex ∷ [])),
-        length-append (a p.vertex) [],
-      )

@@ -2,6 +2,7 @@
 pub mod RingMoveReached
 pub mod KfmrhReached
 pub mod KfmrhRoom
+pub mod KfmrhRun
 pub mod KidsFound
 pub mod KvfsCounts
 pub mod KvfsParts
@@ -17,3 +18,4 @@ pub mod KefRoom
 pub mod KefDone
 pub mod KemrReached
 pub mod KemrStages
+pub mod KemrRun

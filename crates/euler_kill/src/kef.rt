@@ -1,19 +1,13 @@
 //! The operator kef.
-ghost use Rattle.std.specs.Prelude.{◌≡◌, ◌+◌, ◌*◌, ◌≤◌, [], ◌∷◌, IsTrue, length};
-ghost use Rattle.std.specs.List.{AllByRecursion, flat_map};
+ghost use Rattle.std.specs.Prelude.{◌≡◌, [], ◌∷◌};
 ghost use Rattle.pk_base.specs.declared.call.Call.TheVariants.{Kef};
-ghost use Rattle.pk_model.specs.Tags.{owns};
 ghost use Rattle.solid_model.specs.Sound.{IsSound};
-ghost use Rattle.solid_calls.specs.Attributes.{attributes_on};
 ghost use Rattle.solid_calls.specs.Pairs.{HasDone, MayDo, NeedsAsRow};
-ghost use Rattle.solid_calls.specs.Room.{HasRoomForThese, PutsAmong};
-ghost use Rattle.solid_edits.specs.Deaths.{Kills, with_attributes};
 
-use attributes::count_attributes;
 use entity_store::{Need, Recorder, Steps, Store};
 use halfedge::{join_rings, relabel, ring_len, ring_next};
 use pk_base::{Refusal, Tag};
-use solid_edits::{kill, put_loop};
+use solid_edits::{count_dead, kill_all, put_loop};
 use solid_places::{PlacedFin, fin_at, has_rings};
 use std::sync::ledger::Ledger;
 
@@ -32,7 +26,7 @@ pub fn kef_need<L: Ledger>(store: &Store, fin: Tag, steps: &mut Steps<L>) -> Res
     if has_rings(store, u.face, steps) {
         return Err(Refusal::HasRings(u.face));
     }
-    let dead = count_dead(store, fin, &u, steps);
+    let dead = count_dead(store, side_of(fin, &u).as_slice(), steps);
     let fins = ring_len(store, fin, steps) + ring_len(store, u.mate, steps);
     Ok(Need {
         tags: 0,
@@ -78,47 +72,12 @@ pub fn kef_do<L: Ledger>(rec: &mut Recorder<'_>, fin: Tag, steps: &mut Steps<L>)
     join_rings(rec, fin, steps);
     relabel(rec, first, v.loop_, steps);
     put_loop(rec, v.loop_, v.face, first, steps);
-    kill_side(rec, fin, &u, steps);
+    kill_all(rec, side_of(fin, &u).as_slice(), steps);
 }
 
-/// How many die with the face of the fin: its loop, it itself, the fin, its mate and the edge, and
-/// their attributes.
-fn count_dead<L: Ledger>(store: &Store, fin: Tag, u: &PlacedFin, steps: &mut Steps<L>) -> usize
-    ensures dead { let killed = u.now.loop_ ∷ u.now.face ∷ fin ∷ u.now.mate ∷ u.now.edge ∷ [] in
-        result ≡ 5 + length (flat_map (attributes_on store.now.state.map) killed) }
-    ensures few { result ≤ 5 + 5 * 16777152 }
+/// What dies with the face of the fin: its loop, it itself, the fin, its mate and the edge.
+fn side_of(fin: Tag, u: &PlacedFin) -> [Tag; 5]
+    ensures { result ≡ u.now.loop_ ∷ u.now.face ∷ fin ∷ u.now.mate ∷ u.now.edge ∷ [] }
 {
-    // The blocks bound how many attributes there are.
-    store.blocks();
-    let loops = count_attributes(store, u.loop_, steps);
-    let faces = count_attributes(store, u.face, steps);
-    let fins = count_attributes(store, fin, steps);
-    let mates = count_attributes(store, u.mate, steps);
-    let edges = count_attributes(store, u.edge, steps);
-    5 + loops + faces + fins + mates + edges
-}
-
-/// Kills the face of the fin with its loop, and the fin, its mate and the edge, each with its
-/// attributes.
-fn kill_side<L: Ledger>(rec: &mut Recorder<'_>, fin: Tag, u: &PlacedFin, steps: &mut Steps<L>)
-    requires owned { AllByRecursion (λ t. IsTrue (owns rec.old.store.now.state.blocks t))
-        (u.now.loop_ ∷ u.now.face ∷ fin ∷ u.now.mate ∷ u.now.edge ∷ []) }
-    requires room { HasRoomForThese rec.old.store.now.recording
-        (with_attributes rec.old.store.now.state.map
-        (u.now.loop_ ∷ u.now.face ∷ fin ∷ u.now.mate ∷ u.now.edge ∷ [])) }
-    ensures kills { Kills rec.old.store.now.state.map
-        (u.now.loop_ ∷ u.now.face ∷ fin ∷ u.now.mate ∷ u.now.edge ∷ [])
-        rec.new.store.now.state.map }
-    ensures state { rec.new.store.now.state ≡ record rec.old.store.now.state
-        { map = rec.new.store.now.state.map } }
-    ensures puts { PutsAmong (with_attributes rec.old.store.now.state.map
-        (u.now.loop_ ∷ u.now.face ∷ fin ∷ u.now.mate ∷ u.now.edge ∷ []))
-        rec.old.store.now rec.new.store.now }
-    ensures same_store { rec.new.store.ghost_name ≡ rec.old.store.ghost_name }
-{
-    kill(rec, u.loop_, steps);
-    kill(rec, u.face, steps);
-    kill(rec, fin, steps);
-    kill(rec, u.mate, steps);
-    kill(rec, u.edge, steps);
+    [u.loop_, u.face, fin, u.mate, u.edge]
 }

@@ -1,6 +1,5 @@
 //! The operator kemr.
 ghost use Rattle.std.specs.Prelude.{◌≡◌, ◌≢◌, ◌∷◌, [], None, IfSome, IsTrue, Contains};
-ghost use Rattle.std.specs.List.{AllByRecursion};
 ghost use Rattle.std.specs.FinMap as map;
 ghost use Rattle.pk_base.specs.declared.call.Call.TheVariants.{Kemr};
 ghost use Rattle.pk_model.specs.Tags.{owns};
@@ -9,15 +8,13 @@ ghost use Rattle.solid_model.specs.Sound.{IsSound};
 ghost use Rattle.solid_calls.specs.LinkedRings.{IsInRing, Relinks, mate_in, ring_at, ring_of_any};
 ghost use Rattle.solid_calls.specs.Pairs.{HasDone, HasTags, MayDo, NeedsAsRow, Takes};
 ghost use Rattle.solid_calls.specs.Room.{HasRoomForThese, PutsAmong};
-ghost use Rattle.solid_edits.specs.Deaths.{Kills, with_attributes};
 ghost use Rattle.solid_edits.specs.EditedLoops.{HasParted, fins_behind, fins_between, other_than as the_other_than};
 
-use attributes::count_attributes;
 use entity_store::{Need, Recorder, Steps, Store, Tags};
 use halfedge::{cut_ring, ring_len, ring_next};
 use pk_base::{Refusal, Tag, TagListBuilder};
 use solid_calls::take_tag;
-use solid_edits::{give_ring, kill, least_of_any, loop_from};
+use solid_edits::{count_dead, give_ring, kill_all, least_of_any, loop_from};
 use solid_places::fin_at;
 use std::sync::ledger::Ledger;
 
@@ -34,12 +31,10 @@ pub fn kemr_need<L: Ledger>(store: &Store, fin: Tag, steps: &mut Steps<L>) -> Re
         return Err(Refusal::TwoLoops(u.loop_, w.loop_));
     }
     let ring = ring_len(store, fin, steps);
-    let of_fin = count_attributes(store, fin, steps);
-    let of_mate = count_attributes(store, u.mate, steps);
-    let of_edge = count_attributes(store, u.edge, steps);
+    let dead = count_dead(store, [fin, u.mate, u.edge].as_slice(), steps);
     Ok(Need {
         tags: 1,
-        changes: 5 + ring + of_fin + of_mate + of_edge,
+        changes: 2 + ring + dead,
         list: 1,
     })
 }
@@ -92,7 +87,7 @@ pub fn kemr_do<L: Ledger>(
         steps,
     );
     rec.put(ring, Some(loop_from(u.face, least.off, w.vertex)), steps);
-    kill_edge(rec, fin, u.mate, u.edge, steps);
+    kill_all(rec, [fin, u.mate, u.edge].as_slice(), steps);
 }
 
 /// A fin of each part of a ring that was cut, where it is not empty.
@@ -171,29 +166,4 @@ fn cut_out<L: Ledger>(rec: &mut Recorder<'_>, fin: Tag, mate: Tag, steps: &mut S
         kept: other_than(after_mate, fin),
         off: other_than(after_fin, mate),
     }
-}
-
-/// Kills an edge and both of its fins with their attributes. It takes no memory.
-fn kill_edge<L: Ledger>(
-    rec: &mut Recorder<'_>,
-    fin: Tag,
-    mate: Tag,
-    edge: Tag,
-    steps: &mut Steps<L>,
-)
-    requires owned { AllByRecursion (λ t. IsTrue (owns rec.old.store.now.state.blocks t))
-        (fin ∷ mate ∷ edge ∷ []) }
-    requires room { HasRoomForThese rec.old.store.now.recording
-        (with_attributes rec.old.store.now.state.map (fin ∷ mate ∷ edge ∷ [])) }
-    ensures kills { Kills rec.old.store.now.state.map (fin ∷ mate ∷ edge ∷ [])
-        rec.new.store.now.state.map }
-    ensures state { rec.new.store.now.state ≡ record rec.old.store.now.state
-        { map = rec.new.store.now.state.map } }
-    ensures puts { PutsAmong (with_attributes rec.old.store.now.state.map
-        (fin ∷ mate ∷ edge ∷ [])) rec.old.store.now rec.new.store.now }
-    ensures same_store { rec.new.store.ghost_name ≡ rec.old.store.ghost_name }
-{
-    kill(rec, fin, steps);
-    kill(rec, mate, steps);
-    kill(rec, edge, steps);
 }

@@ -13,11 +13,10 @@ ghost use Rattle.solid_calls.specs.LinkedRings.{IsInRing, ring_at};
 ghost use Rattle.solid_calls.specs.Pairs.{HasDone, MayDo, NeedsAsRow};
 ghost use Rattle.solid_calls.specs.Room.{PutsAmong};
 
-use attributes::count_attributes;
 use entity_store::{Need, Recorder, Steps, Store};
 use halfedge::{cut_ring, ring_next};
 use pk_base::{Entity, Refusal, Tag};
-use solid_edits::{kill, put_loop};
+use solid_edits::{count_dead, kill_all, put_loop};
 use solid_places::{PlacedFin, fin_at};
 use std::sync::ledger::Ledger;
 
@@ -33,12 +32,10 @@ pub fn kev_need<L: Ledger>(store: &Store, fin: Tag, steps: &mut Steps<L>) -> Res
     if ring_next(store, fin, steps) != placed.mate {
         return Err(Refusal::NotStrut(fin));
     }
-    let of_fins = count_attributes(store, fin, steps) + count_attributes(store, placed.mate, steps);
-    let of_edge = count_attributes(store, placed.edge, steps);
-    let of_vertex = count_attributes(store, mate.vertex, steps);
+    let dead = count_dead(store, strut_of(fin, &placed, &mate).as_slice(), steps);
     Ok(Need {
         tags: 0,
-        changes: 7 + of_fins + of_edge + of_vertex,
+        changes: 3 + dead,
         list: 0,
     })
 }
@@ -78,10 +75,14 @@ pub fn kev_do<L: Ledger>(rec: &mut Recorder<'_>, fin: Tag, steps: &mut Steps<L>)
     let next = ring_next(rec.view(), placed.mate, steps);
     cut_ring(rec, fin, steps);
     put_rest(rec, &placed, fin, next, steps);
-    kill(rec, fin, steps);
-    kill(rec, placed.mate, steps);
-    kill(rec, placed.edge, steps);
-    kill(rec, mate.vertex, steps);
+    kill_all(rec, strut_of(fin, &placed, &mate).as_slice(), steps);
+}
+
+/// What dies with a strut: the fin, its mate, the edge, and the vertex where the mate starts.
+fn strut_of(fin: Tag, placed: &PlacedFin, mate: &PlacedFin) -> [Tag; 4]
+    ensures { result ≡ fin ∷ placed.now.mate ∷ placed.now.edge ∷ mate.now.vertex ∷ [] }
+{
+    [fin, placed.mate, placed.edge, mate.vertex]
 }
 
 /// Gives the loop of a fin what is left without the fin and its mate: the ring of the fin `next`,

@@ -9,12 +9,11 @@ ghost use Rattle.solid_model.specs.Places.{body_at as the_body_at};
 ghost use Rattle.solid_model.specs.Shapes.{shape_of};
 ghost use Rattle.solid_model.specs.Sound.{IsSound};
 ghost use Rattle.solid_calls.specs.Pairs.{HasDone, MayDo, NeedsAsRow};
-ghost use Rattle.solid_edits.specs.BareParts.{AreBareParts, lone_vertex as the_lone_vertex};
+ghost use Rattle.solid_edits.specs.BareParts.{AreBareParts, lone_vertex as the_lone_vertex, tags_of_parts};
 
-use attributes::count_attributes;
 use entity_store::{Need, Recorder, Steps, Store};
 use pk_base::{Class, Entity, Refusal, Tag};
-use solid_edits::{BareParts, kill};
+use solid_edits::{BareParts, count_dead, kill_all};
 use solid_places::{body_at, number_of_parts};
 use std::sync::ledger::Ledger;
 
@@ -28,16 +27,9 @@ pub fn kvfs_need<L: Ledger>(store: &Store, body: Tag, steps: &mut Steps<L>) -> R
         return Err(Refusal::NotBare(body));
     }
     let parts = parts_of(store, body, steps);
-    // Its clauses say that there are few blocks, and so few attributes.
-    store.blocks();
-    let first = count_attributes(store, parts.body, steps);
-    let second = count_attributes(store, parts.shell, steps);
-    let third = count_attributes(store, parts.face, steps);
-    let fourth = count_attributes(store, parts.loop_, steps);
-    let fifth = count_attributes(store, parts.vertex, steps);
     Ok(Need {
         tags: 0,
-        changes: first + second + third + fourth + fifth + 5,
+        changes: count_dead(store, tags_of(&parts).as_slice(), steps),
         list: 0,
     })
 }
@@ -65,11 +57,20 @@ pub fn kvfs_do<L: Ledger>(rec: &mut Recorder<'_>, body: Tag, steps: &mut Steps<L
     // Its clauses say that the blocks of what is live are owned.
     rec.view().blocks();
     let parts = parts_of(rec.view(), body, steps);
-    kill(rec, parts.body, steps);
-    kill(rec, parts.shell, steps);
-    kill(rec, parts.face, steps);
-    kill(rec, parts.loop_, steps);
-    kill(rec, parts.vertex, steps);
+    kill_all(rec, tags_of(&parts).as_slice(), steps);
+}
+
+/// The tags of the parts.
+fn tags_of(parts: &BareParts) -> [Tag; 5]
+    ensures { result ≡ tags_of_parts parts.now }
+{
+    [
+        parts.body,
+        parts.shell,
+        parts.face,
+        parts.loop_,
+        parts.vertex,
+    ]
 }
 
 /// Whether a body has an edge, a second face or a second loop.

@@ -1,5 +1,6 @@
 -- In reading order.
 pub mod MfkrhReached
+pub mod MfkrhRun
 pub mod MvfsReached
 pub mod MevReached
 pub mod MevRun
@@ -9,3 +10,4 @@ pub mod MefRoom
 pub mod MefDone
 pub mod MekrReached
 pub mod MekrStages
+pub mod MekrRun

@@ -9,6 +9,7 @@ pub mod PlacedFins
 pub mod Puts
 pub mod KilledMaps
 pub mod Stages
+pub mod ManyDeaths
 pub mod PartedRings
 pub mod PlacedAnew
 pub mod WrittenMaps

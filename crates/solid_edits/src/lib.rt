@@ -3,7 +3,7 @@
 #![tactic(auto)]
 
 pub use bare_parts::BareParts;
-pub use deaths::kill;
+pub use deaths::{count_dead, kill, kill_all};
 pub use faces::{add_q, give_loop};
 pub use loop_edits::{give_ring, least_of_any, loop_from};
 pub use ring_loops::put_loop;

@@ -1,8 +1,12 @@
 -- Each step asks for what the steps before it have left.
-use Rattle.std.proofs.Common.{◌≡◌, Some, refl, subst, sym}
-use Rattle.std.specs.Prelude.{IsSome}
+use Rattle.std.proofs.Common.{◌≡◌, Some, refl, subst, sym, ◌∙◌}
+use Rattle.std.specs.Prelude.{IsSome, IsTrue}
+use Rattle.std.specs.List.{AllByRecursion}
+use Rattle.pk_model.specs.Tags.{owns}
 use Rattle.entity_store.specs.Store.{StoreView}
 use Rattle.solid_calls.specs.LinkedRings.{next_at}
+use Rattle.solid_calls.specs.Room.{HasRoomForThese, PutsAmong}
+use Rattle.solid_edits.specs.Deaths.{Kills, with_attributes}
 use Rattle.solid_edits.proofs.PlacedFins.{found_fin}
 use Rattle.euler_kill.proofs.KefRoom.{kef-goes}
 use Rattle.euler_kill.proofs.KefDone.{asks-joined, joined-room, kef-done, label-other, label-owned, label-ring, label-room, loop-face_owned, loop-owned, loop-ring, loop-room, next-some, side-owned, side-room}
@@ -73,8 +77,8 @@ put_loop-requires g c =
       room = loop-room s x u v G first next c.join_rings.new.rec.store.now c.join_rings.ensures.links c.join_rings.ensures.state c.join_rings.ensures.puts c.relabel.new.rec.store.now c.relabel.ensures.labels c.relabel.ensures.state c.relabel.ensures.puts;
     }
 
-pub kill_side-requires : goal.kill_side-requires
-kill_side-requires g c =
+pub kill_all-requires-clause-owned : goal.kill_all-requires-clause-owned
+kill_all-requires-clause-owned g c =
     let s = c.args.rec.now.store.now in
     let x = c.args.fin in
     let a = c.view-store.result.now in
@@ -84,10 +88,26 @@ kill_side-requires g c =
     let G = kef-goes s a viewed x u v c.blocks-2.ensures.hosted c.requires c.in-Ok.ensures.found c.in-Ok-fin_at.ensures.found refl c.in-Ok.ensures.ring refl c.in-Ok-fin_at.ensures.ring in
     let first = c.ring_next-first.result in
     let next = subst (λ (z : StoreView). next_at z.state.map x ≡ Some first) viewed c.ring_next-first.ensures in
-    record {
-      owned = side-owned s x u v G first next c.join_rings.new.rec.store.now c.join_rings.ensures.links c.join_rings.ensures.state c.join_rings.ensures.puts c.relabel.new.rec.store.now c.relabel.ensures.labels c.relabel.ensures.state c.relabel.ensures.puts c.put_loop.new.rec.store.now c.put_loop.ensures.state c.put_loop.ensures.puts;
-      room = side-room s x u v G first next c.join_rings.new.rec.store.now c.join_rings.ensures.links c.join_rings.ensures.state c.join_rings.ensures.puts c.relabel.new.rec.store.now c.relabel.ensures.labels c.relabel.ensures.state c.relabel.ensures.puts c.put_loop.new.rec.store.now c.put_loop.ensures.state c.put_loop.ensures.puts;
-    }
+    let is = c.as_slice.ensures ∙ c.side_of.ensures in
+    let s4 = c.put_loop.new.rec.store.now in
+    subst (AllByRecursion (λ t. IsTrue (owns s4.state.blocks t))) (sym is)
+    (side-owned s x u v G first next c.join_rings.new.rec.store.now c.join_rings.ensures.links c.join_rings.ensures.state c.join_rings.ensures.puts c.relabel.new.rec.store.now c.relabel.ensures.labels c.relabel.ensures.state c.relabel.ensures.puts c.put_loop.new.rec.store.now c.put_loop.ensures.state c.put_loop.ensures.puts)
+
+pub kill_all-requires-clause-room : goal.kill_all-requires-clause-room
+kill_all-requires-clause-room g c =
+    let s = c.args.rec.now.store.now in
+    let x = c.args.fin in
+    let a = c.view-store.result.now in
+    let viewed = c.view-store.ensures in
+    let u = found_fin a.state.map x c.in-Ok.u in
+    let v = found_fin a.state.map u.mate c.in-Ok-fin_at.v in
+    let G = kef-goes s a viewed x u v c.blocks-2.ensures.hosted c.requires c.in-Ok.ensures.found c.in-Ok-fin_at.ensures.found refl c.in-Ok.ensures.ring refl c.in-Ok-fin_at.ensures.ring in
+    let first = c.ring_next-first.result in
+    let next = subst (λ (z : StoreView). next_at z.state.map x ≡ Some first) viewed c.ring_next-first.ensures in
+    let is = c.as_slice.ensures ∙ c.side_of.ensures in
+    let s4 = c.put_loop.new.rec.store.now in
+    subst (λ ts. HasRoomForThese s4.recording (with_attributes s4.state.map ts)) (sym is)
+    (side-room s x u v G first next c.join_rings.new.rec.store.now c.join_rings.ensures.links c.join_rings.ensures.state c.join_rings.ensures.puts c.relabel.new.rec.store.now c.relabel.ensures.labels c.relabel.ensures.state c.relabel.ensures.puts c.put_loop.new.rec.store.now c.put_loop.ensures.state c.put_loop.ensures.puts)
 
 pub returns-clause-done : goal.returns-clause-done
 returns-clause-done g c =
@@ -100,4 +120,9 @@ returns-clause-done g c =
     let G = kef-goes s a viewed x u v c.blocks-2.ensures.hosted c.requires c.in-Ok.ensures.found c.in-Ok-fin_at.ensures.found refl c.in-Ok.ensures.ring refl c.in-Ok-fin_at.ensures.ring in
     let first = c.ring_next-first.result in
     let next = subst (λ (z : StoreView). next_at z.state.map x ≡ Some first) viewed c.ring_next-first.ensures in
-    kef-done s x u v G first next c.join_rings.new.rec.store.now c.join_rings.ensures.links c.join_rings.ensures.state c.join_rings.ensures.puts c.relabel.new.rec.store.now c.relabel.ensures.labels c.relabel.ensures.state c.relabel.ensures.puts c.put_loop.new.rec.store.now c.put_loop.ensures.state c.put_loop.ensures.puts c.kill_side.new.rec.store.now c.kill_side.ensures.kills c.kill_side.ensures.state c.kill_side.ensures.puts
+    let is = c.as_slice.ensures ∙ c.side_of.ensures in
+    let s4 = c.put_loop.new.rec.store.now in
+    let s5 = c.kill_all.new.rec.store.now in
+    kef-done s x u v G first next c.join_rings.new.rec.store.now c.join_rings.ensures.links c.join_rings.ensures.state c.join_rings.ensures.puts c.relabel.new.rec.store.now c.relabel.ensures.labels c.relabel.ensures.state c.relabel.ensures.puts c.put_loop.new.rec.store.now c.put_loop.ensures.state c.put_loop.ensures.puts s5
+    (subst (λ ts. Kills s4.state.map ts s5.state.map) is c.kill_all.ensures.kills) c.kill_all.ensures.state
+    (subst (λ ts. PutsAmong (with_attributes s4.state.map ts) s4 s5) is c.kill_all.ensures.puts)

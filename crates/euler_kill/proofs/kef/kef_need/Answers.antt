@@ -1,10 +1,11 @@
 -- The sums are within what a store has tags for, and just what the row puts.
-use Rattle.std.proofs.Common.{◌≡◌, ◌+◌, false, length, refl, sym, ◌∙◌, rules, arith}
+use Rattle.std.proofs.Common.{◌≡◌, ◌+◌, false, length, length-append, refl, sym, ap, ◌∙◌, rules, arith}
 use Rattle.std.specs.List.{flat_map}
 use Rattle.pk_base.specs.Entity.{same_tag}
 use Rattle.solid_calls.specs.Attributes.{attributes_on}
 use Rattle.solid_calls.specs.LinkedRings.{ring_at}
 use Rattle.solid_calls.proofs.Sizes.{few-ring}
+use Rattle.solid_edits.specs.Deaths.{with_attributes}
 use Rattle.solid_edits.proofs.PlacedFins.{found_fin}
 use Rattle.euler_kill.proofs.KefReached.{kef_killed}
 use Rattle.euler_kill.proofs.KefRoom.{kef-need}
@@ -40,5 +41,7 @@ returns g c =
     let apart : same_tag u.loop_ v.loop_ ≡ false = search rules in
     let fins = c.ring_len.ensures in
     let mates = c.ring_len-2.ensures in
-    let dead : c.count_dead-dead.result ≡ 5 + length (flat_map (attributes_on m) (kef_killed x u)) = c.count_dead-dead.ensures.dead in
+    let is = c.as_slice.ensures ∙ c.side_of.ensures in
+    let dead : c.count_dead-dead.result ≡ 5 + length (flat_map (attributes_on m) (kef_killed x u)) =
+    c.count_dead-dead.ensures.dead ∙ ap (λ ts. length (with_attributes m ts)) is ∙ length-append (kef_killed x u) (flat_map (attributes_on m) (kef_killed x u)) in
     kef-need m x u v _ c.requires c.in_ok-u.ensures.found c.in_ok-v.ensures.found apart (sym c.has_rings.ensures ∙ c.if-has_rings.false) refl (λ i. dead i + 1 + (fins i + mates i))

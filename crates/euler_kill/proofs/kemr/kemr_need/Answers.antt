@@ -1,4 +1,4 @@
-use Rattle.std.proofs.Common.{◌≡◌, ◌≤◌, refl, sym, ap, subst, arith}
+use Rattle.std.proofs.Common.{◌≡◌, ◌≤◌, length, refl, sym, ap, subst, ◌∙◌, arith}
 use Rattle.std.specs.Prelude.{IsOk}
 use Rattle.std.proofs.lemmas.Bool.{not-false}
 use Rattle.pk_base.specs.Entity.{same_tag}
@@ -7,7 +7,8 @@ use Rattle.solid_model.specs.Rows.{Row}
 use Rattle.solid_model.specs.Shapes.{shape_of}
 use Rattle.solid_sound.proofs.Lists.{same_means}
 use Rattle.solid_calls.specs.LinkedRings.{ring_at}
-use Rattle.solid_calls.proofs.Sizes.{few-attributes, few-ring}
+use Rattle.solid_calls.proofs.Sizes.{few-ring}
+use Rattle.solid_edits.specs.Deaths.{with_attributes}
 use Rattle.euler_kill.proofs.KemrReached.{IsOnBothSides, kemr-counts, kemr-is, placed_with}
 use Rattle.euler_kill.proofs.kemr.kemr_need.Goals as goal
 
@@ -21,25 +22,7 @@ pub overflow_add-result-2 : goal.overflow_add-result-2
 overflow_add-result-2 g c =
     let s = c.args.store.now.state in
     let ring = few-ring s c.blocks-2.ensures.ascending c.blocks-2.ensures.range c.blocks-2.ensures.hosted (ring_at s.map c.args.fin) c.in_ok-u.ensures.ring.ring in
-    let of_fin = few-attributes s c.blocks-2.ensures.ascending c.blocks-2.ensures.range c.blocks-2.ensures.hosted c.args.fin in
-    omega (arith, ring, of_fin, c.ring_len-ring.ensures, c.count_attributes-of_fin.ensures)
-
-pub overflow_add-result-3 : goal.overflow_add-result-3
-overflow_add-result-3 g c =
-    let s = c.args.store.now.state in
-    let ring = few-ring s c.blocks-2.ensures.ascending c.blocks-2.ensures.range c.blocks-2.ensures.hosted (ring_at s.map c.args.fin) c.in_ok-u.ensures.ring.ring in
-    let of_fin = few-attributes s c.blocks-2.ensures.ascending c.blocks-2.ensures.range c.blocks-2.ensures.hosted c.args.fin in
-    let of_mate = few-attributes s c.blocks-2.ensures.ascending c.blocks-2.ensures.range c.blocks-2.ensures.hosted c.in_ok-u.u.mate in
-    omega (arith, ring, of_fin, of_mate, c.ring_len-ring.ensures, c.count_attributes-of_fin.ensures, c.count_attributes-of_mate.ensures)
-
-pub overflow_add-result-4 : goal.overflow_add-result-4
-overflow_add-result-4 g c =
-    let s = c.args.store.now.state in
-    let ring = few-ring s c.blocks-2.ensures.ascending c.blocks-2.ensures.range c.blocks-2.ensures.hosted (ring_at s.map c.args.fin) c.in_ok-u.ensures.ring.ring in
-    let of_fin = few-attributes s c.blocks-2.ensures.ascending c.blocks-2.ensures.range c.blocks-2.ensures.hosted c.args.fin in
-    let of_mate = few-attributes s c.blocks-2.ensures.ascending c.blocks-2.ensures.range c.blocks-2.ensures.hosted c.in_ok-u.u.mate in
-    let of_edge = few-attributes s c.blocks-2.ensures.ascending c.blocks-2.ensures.range c.blocks-2.ensures.hosted c.in_ok-u.u.edge in
-    omega (arith, ring, of_fin, of_mate, of_edge, c.ring_len-ring.ensures, c.count_attributes-of_fin.ensures, c.count_attributes-of_mate.ensures, c.count_attributes-of_edge.ensures)
+    omega (arith, ring, c.ring_len-ring.ensures, c.count_dead-dead.ensures.few)
 
 pub returns : goal.returns
 returns g c =
@@ -51,9 +34,10 @@ returns g c =
     let at : IsOnBothSides m f u w = record { sound = c.requires; found = c.in_ok-u.ensures.found; other = c.in_ok-w.ensures.found; one = one; ring = refl; in_ring = c.in_ok-u.ensures.ring } in
     let is = sym (kemr-is (shape_of m) f u w at.found at.other at.one) in
     let counts = kemr-counts m f u w at in
+    let dead = c.count_dead-dead.ensures.dead ∙ ap (λ ts. length (with_attributes m ts)) c.as_slice.ensures in
     record {
       goes = subst (λ (r : Row). IsOk r) is refl;
       tags = ap cost_of is;
-      changes = omega (arith, counts, c.ring_len-ring.ensures, c.count_attributes-of_fin.ensures, c.count_attributes-of_mate.ensures, c.count_attributes-of_edge.ensures);
+      changes = omega (arith, counts, dead, c.ring_len-ring.ensures);
       list = subst (λ (r : Row). list_of r ≤ 1) is (omega arith);
     }
