@@ -1,5 +1,5 @@
-//! Steps that several operators on solids share: an entity is killed with its attributes, a loop is
-//! put anew or given to another face, a ring is given to a loop.
+//! Steps that several operators on solids share: entities are killed with their attributes, a loop
+//! is put anew or given to another face, a ring is given to a loop.
 #![tactic(auto)]
 
 pub use bare_parts::BareParts;
