@@ -15,7 +15,7 @@ use halfedge::{cut_ring, ring_len, ring_next};
 use pk_base::{Refusal, Tag, TagListBuilder};
 use solid_calls::take_tag;
 use solid_edits::{count_dead, give_ring, kill_all, least_of_any, loop_from};
-use solid_places::fin_at;
+use solid_places::{PlacedFin, fin_at};
 use std::sync::ledger::Ledger;
 
 /// What `kemr_do` needs, or why it is refused. It takes no memory.
@@ -31,7 +31,7 @@ pub fn kemr_need<L: Ledger>(store: &Store, fin: Tag, steps: &mut Steps<L>) -> Re
         return Err(Refusal::TwoLoops(u.loop_, w.loop_));
     }
     let ring = ring_len(store, fin, steps);
-    let dead = count_dead(store, [fin, u.mate, u.edge].as_slice(), steps);
+    let dead = count_dead(store, edge_of(fin, &u).as_slice(), steps);
     Ok(Need {
         tags: 1,
         changes: 2 + ring + dead,
@@ -52,7 +52,8 @@ pub fn kemr_need<L: Ledger>(store: &Store, fin: Tag, steps: &mut Steps<L>) -> Re
 /// (`WrongClass`); an edge with two loops (`TwoLoops` with f's loop and m's). A refusal changes
 /// nothing.
 ///
-/// `Mekr` undoes it, from a fin of B or from L, to a fin of A or to the new loop.
+/// `Mekr` undoes it, from the first fin of B or from L, to the first fin of A or to the new loop, but
+/// for the tags and the attributes.
 ///
 /// In a loop 70 of the fins `73 75 76 74`, where 73 and 74 are mates, `Kemr { fin: 73 }` with 80 as
 /// the next tag takes 80. Then loop 80 is `75 76`, and loop 70 has the vertex where 73 started.
@@ -87,7 +88,14 @@ pub fn kemr_do<L: Ledger>(
         steps,
     );
     rec.put(ring, Some(loop_from(u.face, least.off, w.vertex)), steps);
-    kill_all(rec, [fin, u.mate, u.edge].as_slice(), steps);
+    kill_all(rec, edge_of(fin, &u).as_slice(), steps);
+}
+
+/// What dies with an edge: the fin, its mate and the edge.
+fn edge_of(fin: Tag, u: &PlacedFin) -> [Tag; 3]
+    ensures { result ≡ fin ∷ u.now.mate ∷ u.now.edge ∷ [] }
+{
+    [fin, u.mate, u.edge]
 }
 
 /// A fin of each part of a ring that was cut, where it is not empty.

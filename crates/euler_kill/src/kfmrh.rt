@@ -56,7 +56,7 @@ pub fn kfmrh_need<L: Ledger>(
 /// faces of different bodies (`NotOneBody` with both); a face to kill that has more than one loop
 /// (`HasRings` with it). A refusal changes nothing.
 ///
-/// `Mfkrh` of the ring undoes it, but for the attributes.
+/// `Mfkrh` of the ring undoes it, but for the tag of the face and its attributes.
 ///
 /// Source: Mäntylä, An Introduction to Solid Modeling, 1988 (kill face, make ring, hole); the
 /// form is this project's own.

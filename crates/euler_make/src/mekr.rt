@@ -70,7 +70,7 @@ pub fn mekr_need<L: Ledger>(
 /// outer loop of the face (`IsOuter`); ends at one vertex (`SameVertex` with it). A refusal changes
 /// nothing.
 ///
-/// `Kemr { fin: f }` undoes it.
+/// `Kemr { fin: f }` undoes it, but for the tag of the ring and its attributes.
 ///
 /// In a face with the outer loop 70 of the fins `76` and `77`, and a ring 80 with the lone vertex
 /// 75, `Mekr { keep: 76, ring: 80 }` with 81 as the next tag takes 81 to 83. Then loop 70 is

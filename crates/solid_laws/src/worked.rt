@@ -11,7 +11,7 @@ ghost use Rattle.solid_laws.specs.WorkedPolygons.{limits, limits_answers, larges
 ghost use Rattle.solid_laws.specs.WorkedPolygons.{plate, plate_answers};
 ghost use Rattle.solid_laws.specs.BlockForm.{the_block, class_in_body, places, block_vertices, block_points, block_faces, block_lists};
 
-/// A triangle is made and unmade, and each operator is refused on the way.
+/// A triangle is made and unmade, with refusals of eleven kinds on the way.
 pub fn worked_triangle()
     ensures { answers triangle ≡ triangle_answers }
 {}

@@ -1,3 +1,4 @@
+use Rattle.std.proofs.Common.{◌∙◌}
 use Rattle.entity_store.specs.NextTags.{left}
 use Rattle.euler_kill.proofs.KemrRun.{dead-owned, dead-room, kemr-done, loop-hosted, loop-owned, loop-room, mate-among, mate-is, mate-other, new-hosted, new-room, ready-viewed, ring-room}
 use Rattle.euler_kill.proofs.kemr.kemr_do.Goals as goal
@@ -60,7 +61,7 @@ kill_all-requires-clause-owned g c =
     let s1 = c.part_ring-least.new.rec.store.now in
     let s2 = c.put.new.self.store.now in
     let s3 = c.put-2.new.self.store.now in
-    dead-owned r s1 c.part_ring-least.result.kept c.part_ring-least.result.off c.part_ring-least.ensures.parts c.part_ring-least.ensures.state c.part_ring-least.ensures.puts c.loop_from.result c.loop_from.ensures s2 c.put.ensures.state c.put.ensures.began c.put.ensures.recorded c.loop_from-2.result c.loop_from-2.ensures s3 c.put-2.ensures.state c.put-2.ensures.began c.put-2.ensures.recorded _ c.as_slice.ensures
+    dead-owned r s1 c.part_ring-least.result.kept c.part_ring-least.result.off c.part_ring-least.ensures.parts c.part_ring-least.ensures.state c.part_ring-least.ensures.puts c.loop_from.result c.loop_from.ensures s2 c.put.ensures.state c.put.ensures.began c.put.ensures.recorded c.loop_from-2.result c.loop_from-2.ensures s3 c.put-2.ensures.state c.put-2.ensures.began c.put-2.ensures.recorded _ (c.as_slice.ensures ∙ c.edge_of.ensures)
 
 pub kill_all-requires-clause-room : goal.kill_all-requires-clause-room
 kill_all-requires-clause-room g c =
@@ -68,7 +69,7 @@ kill_all-requires-clause-room g c =
     let s1 = c.part_ring-least.new.rec.store.now in
     let s2 = c.put.new.self.store.now in
     let s3 = c.put-2.new.self.store.now in
-    dead-room r s1 c.part_ring-least.result.kept c.part_ring-least.result.off c.part_ring-least.ensures.parts c.part_ring-least.ensures.state c.part_ring-least.ensures.puts c.loop_from.result c.loop_from.ensures s2 c.put.ensures.state c.put.ensures.began c.put.ensures.recorded c.loop_from-2.result c.loop_from-2.ensures s3 c.put-2.ensures.state c.put-2.ensures.began c.put-2.ensures.recorded _ c.as_slice.ensures
+    dead-room r s1 c.part_ring-least.result.kept c.part_ring-least.result.off c.part_ring-least.ensures.parts c.part_ring-least.ensures.state c.part_ring-least.ensures.puts c.loop_from.result c.loop_from.ensures s2 c.put.ensures.state c.put.ensures.began c.put.ensures.recorded c.loop_from-2.result c.loop_from-2.ensures s3 c.put-2.ensures.state c.put-2.ensures.began c.put-2.ensures.recorded _ (c.as_slice.ensures ∙ c.edge_of.ensures)
 
 pub returns-clause-done : goal.returns-clause-done
 returns-clause-done g c =
@@ -76,4 +77,4 @@ returns-clause-done g c =
     let s1 = c.part_ring-least.new.rec.store.now in
     let s2 = c.put.new.self.store.now in
     let s3 = c.put-2.new.self.store.now in
-    kemr-done r s1 c.part_ring-least.result.kept c.part_ring-least.result.off c.part_ring-least.ensures.parts c.part_ring-least.ensures.state c.part_ring-least.ensures.puts c.loop_from.result c.loop_from.ensures s2 c.put.ensures.state c.put.ensures.began c.put.ensures.recorded c.loop_from-2.result c.loop_from-2.ensures s3 c.put-2.ensures.state c.put-2.ensures.began c.put-2.ensures.recorded c.kill_all.new.rec.store.now _ c.as_slice.ensures c.kill_all.ensures.kills c.kill_all.ensures.state c.kill_all.ensures.puts
+    kemr-done r s1 c.part_ring-least.result.kept c.part_ring-least.result.off c.part_ring-least.ensures.parts c.part_ring-least.ensures.state c.part_ring-least.ensures.puts c.loop_from.result c.loop_from.ensures s2 c.put.ensures.state c.put.ensures.began c.put.ensures.recorded c.loop_from-2.result c.loop_from-2.ensures s3 c.put-2.ensures.state c.put-2.ensures.began c.put-2.ensures.recorded c.kill_all.new.rec.store.now _ (c.as_slice.ensures ∙ c.edge_of.ensures) c.kill_all.ensures.kills c.kill_all.ensures.state c.kill_all.ensures.puts

@@ -34,7 +34,7 @@ returns g c =
     let at : IsOnBothSides m f u w = record { sound = c.requires; found = c.in_ok-u.ensures.found; other = c.in_ok-w.ensures.found; one = one; ring = refl; in_ring = c.in_ok-u.ensures.ring } in
     let is = sym (kemr-is (shape_of m) f u w at.found at.other at.one) in
     let counts = kemr-counts m f u w at in
-    let dead = c.count_dead-dead.ensures.dead ∙ ap (λ ts. length (with_attributes m ts)) c.as_slice.ensures in
+    let dead = c.count_dead-dead.ensures.dead ∙ ap (λ ts. length (with_attributes m ts)) (c.as_slice.ensures ∙ c.edge_of.ensures) in
     record {
       goes = subst (λ (r : Row). IsOk r) is refl;
       tags = ap cost_of is;

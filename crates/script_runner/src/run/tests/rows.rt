@@ -1,6 +1,6 @@
 // Scripts whose answers and journals were worked out by hand: refusals of marks, a mark that is
 // deleted between others, branches, a block that is drawn, rings made and unmade, a triangle with
-// every operator refused once on the way, and an attribute that is set back.
+// refusals of ten kinds on the way, and an attribute that is set back.
 use crate::Status;
 
 /// A script, its report, and how its run ends.
