@@ -52,8 +52,8 @@ pub fn kemr_need<L: Ledger>(store: &Store, fin: Tag, steps: &mut Steps<L>) -> Re
 /// (`WrongClass`); an edge with two loops (`TwoLoops` with f's loop and m's). A refusal changes
 /// nothing.
 ///
-/// `Mekr` undoes it, from the first fin of B or from L, to the first fin of A or to the new loop, but
-/// for the tags and the attributes.
+/// `Mekr` undoes it, from the first fin of B or from L, to the first fin of A or to the new loop,
+/// but for the tags and the attributes.
 ///
 /// In a loop 70 of the fins `73 75 76 74`, where 73 and 74 are mates, `Kemr { fin: 73 }` with 80 as
 /// the next tag takes 80. Then loop 80 is `75 76`, and loop 70 has the vertex where 73 started.
