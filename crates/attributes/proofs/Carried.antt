@@ -14,7 +14,7 @@ use Rattle.pk_base.specs.declared.entity.Entity.TheVariants as entity
 use Rattle.pk_model.specs.Maps.{EntityMap, with_entity}
 use Rattle.pk_model.specs.Step.{◌>>=◌}
 use Rattle.pk_model.specs.Tags.{owns, tag_at}
-use Rattle.pk_model.proofs.TagLists.{ByRecursion-weaker}
+use Rattle.list_facts.proofs.Each.{ByRecursion-weaker}
 use Rattle.solid_model.specs.DropAttr.{drop_attribute}
 use Rattle.solid_calls.proofs.RowKinds.{cost-changing, drop-changes}
 use Rattle.solid_calls.proofs.Kept.{done-sound}
@@ -33,10 +33,10 @@ use Rattle.solid_model.specs.Rows.{Row}
 use Rattle.solid_model.specs.SetAttr.{set_in}
 use Rattle.solid_model.specs.Shapes.{item_of, shape_of}
 use Rattle.solid_model.specs.Sound.{IsSound}
-use Rattle.solid_sound.proofs.Asked.{free_at, free_item}
-use Rattle.solid_sound.proofs.KeptAttributes.{attribute_named-some, drop-keeps, set-keeps}
-use Rattle.solid_sound.proofs.Lists.{contains_first}
-use Rattle.solid_sound.proofs.RowKeeps.{IsWell, Keeps, well-shape}
+use Rattle.solid_sound.proofs.rows.Asked.{free_at, free_item}
+use Rattle.solid_sound.proofs.rows.KeptAttributes.{attribute_named-some, drop-keeps, set-keeps}
+use Rattle.list_facts.proofs.Elements.{Contains-first}
+use Rattle.solid_sound.proofs.rows.RowKeeps.{IsWell, Keeps, well-shape}
 use Rattle.solid_calls.specs.Pairs.{HasDone, MayDo, reached, row_on}
 use Rattle.solid_calls.proofs.Deaths.{item-mapped}
 use Rattle.solid_calls.proofs.Represented.{represents-sound}
@@ -159,7 +159,7 @@ abbrev pub put_state : Stored → Tag → Tag → Name → ℤ → Stored
 put_state s t owner name value = record s { map = with_attribute s.map t owner name value }
 
 one_recorded : (old new : StoreView) (t : Tag) (to : Option Entity) → IsPut old new t to → Records 1 old new
-one_recorded old new t to put = records-of (t ∷ []) 1 old new (puts-one (t ∷ []) old new t (get old.state.map t) (contains_first t []) put.began put.recorded) (omega arith)
+one_recorded old new t to put = records-of (t ∷ []) 1 old new (puts-one (t ∷ []) old new t (get old.state.map t) (Contains-first t []) put.began put.recorded) (omega arith)
 
 pub set-done : (old new : StoreView) (owner : Tag) (name : Name) (value : ℤ) (tags : List Tag) (t : Tag) → MayDo old (SetAttr owner name value) → cost_of (row_on old.state.map (SetAttr owner name value)) ≤ length tags → AllByRecursion (λ u. get old.state.map u ≡ None) tags
     → IsChosen old.state.map owner name tags t → IsPut old new t (Some (entity.Attr owner name value)) → HasDone old (SetAttr owner name value) tags new

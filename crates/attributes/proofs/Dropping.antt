@@ -1,5 +1,5 @@
 -- An owner's attributes die one after another: what has died so far, and what is left.
-use Rattle.std.proofs.Common.{◌≡◌, ◌≢◌, ◌<◌, ◌≤◌, ◌⊎◌, inl, inr, ⊎_elim, true, false, cond, List, [], ◌∷◌, length, Option, Some, None, refl, sym, ap, subst, ◌∙◌, arith}
+use Rattle.std.proofs.Common.{◌≡◌, ◌≢◌, ◌<◌, ◌≤◌, ◌⊎◌, inr, ⊎_elim, true, false, cond, List, [], ◌∷◌, length, Option, Some, None, refl, sym, ap, subst, ◌∙◌, arith}
 use Rattle.std.specs.Prelude.{is_some, Contains, IsTrue}
 use Rattle.std.specs.Option.{option_map_or}
 use Rattle.std.specs.List.{AllByRecursion}
@@ -9,18 +9,18 @@ use Rattle.pk_base.specs.declared.entity.Entity.{Entity}
 use Rattle.pk_model.specs.Apart.{NoRepeats}
 use Rattle.pk_model.specs.Maps.{EntityMap, with_entity}
 use Rattle.pk_model.specs.Tags.{owns}
-use Rattle.pk_model.proofs.TagLists.{ByRecursion-contains}
+use Rattle.list_facts.proofs.Each.{ByRecursion-contains}
 use Rattle.entity_store.specs.Recording.{HasRoomFor}
 use Rattle.entity_store.specs.Store.{Stored, StoreView}
-use Rattle.entity_store.proofs.Ascending.{Contains-filter, NoRepeats-filter, filter_contains}
+use Rattle.entity_store.proofs.Ascending.{NoRepeats-filter}
 use Rattle.entity_store.proofs.FirstValues.{get_other, get_put}
-use Rattle.entity_store.proofs.NetChanges.{Contains-keys, TagsAscend-keys}
-use Rattle.solid_sound.proofs.Found.{same_or_other}
-use Rattle.solid_sound.proofs.Lists.{not_in_nil}
+use Rattle.solid_sound.proofs.shapes.Found.{same_or_other}
+use Rattle.list_facts.proofs.Elements.{not_in_nil, Contains-filter, filter_contains}
 use Rattle.solid_calls.specs.Attributes.{attributes_on, is_attribute_on, unless_on, DropsAttributes}
 use Rattle.solid_calls.specs.Room.{HasRoomForThese, PutsAmong}
-use Rattle.solid_calls.proofs.Room.{no_more-different, puts-none, puts-one, puts-then, room-after, room-for_one}
+use Rattle.solid_calls.proofs.Room.{no_more-different, puts-one, puts-then, room-after, room-for_one}
 use Rattle.solid_calls.proofs.Sizes.{apart-ascending}
+use Rattle.pk_model.proofs.Keys.{Contains-keys, TagsAscend-keys}
 use Rattle.attributes.proofs.Carried.{AllHosted, IsPut}
 use Rattle.attributes.proofs.Walked.{is_on_at}
 
@@ -55,9 +55,6 @@ pub record IsDropping (o : Tag) (old new : StoreView) : Type 0 where
   pub left : (t : Tag) → IsLeft o old.state.map new.state.map t
   pub state : new.state ≡ record old.state { map = new.state.map }
   pub puts : PutsAmong (attributes_on old.state.map o) old new
-
-pub dropping-first : (o : Tag) (s : StoreView) → IsDropping o s s
-dropping-first o s = record { left = λ t. inl refl; state = refl; puts = puts-none (attributes_on s.state.map o) s }
 
 -- one that is left was there before
 pub left-before : (o : Tag) (old new : StoreView) (t : Tag) → IsDropping o old new → Contains (attributes_on new.state.map o) t → Contains (attributes_on old.state.map o) t

@@ -15,10 +15,10 @@ use Rattle.solid_model.specs.Attributes.{as_owner, attribute_named, owner_of_att
 use Rattle.solid_model.specs.Places.{asked}
 use Rattle.solid_model.specs.Shapes.{item_of, shape_of}
 use Rattle.solid_model.specs.Sound.{IsSound}
-use Rattle.solid_sound.proofs.KeptAttributes.{attribute_named-none, attribute_named-some}
-use Rattle.solid_sound.proofs.Found.{none_or_some, none_where}
-use Rattle.solid_sound.proofs.Lists.{not_in_nil}
-use Rattle.solid_sound.proofs.RowKeeps.{well-shape}
+use Rattle.solid_sound.proofs.rows.KeptAttributes.{attribute_named-none, attribute_named-some}
+use Rattle.solid_sound.proofs.shapes.Found.{none_or_some, none_where}
+use Rattle.list_facts.proofs.Elements.{not_in_nil}
+use Rattle.solid_sound.proofs.rows.RowKeeps.{well-shape}
 use Rattle.solid_calls.proofs.Deaths.{item-mapped}
 use Rattle.attributes.specs.Entities.{is_attribute, is_named}
 use Rattle.attributes.proofs.Walked.{AllNamed, IsKidOf, Kid, named-among}

@@ -3,5 +3,3 @@ pub mod Found
 pub mod Written
 pub mod Carried
 pub mod Dropping
-pub mod Lent
-pub mod VertexBody

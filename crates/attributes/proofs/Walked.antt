@@ -17,10 +17,10 @@ use Rattle.pk_base.specs.declared.entity.Entity.{Entity}
 use Rattle.pk_base.specs.declared.entity.Entity.TheVariants.{Body, Shell, Face, Loop, Fin, Edge, Vertex, Attr}
 use Rattle.pk_model.specs.Maps.{EntityMap}
 use Rattle.entity_store.specs.Kids.{kid_at, kids_among, kids_of}
-use Rattle.entity_store.proofs.Ascending.{Contains-filter}
-use Rattle.entity_store.proofs.NetChanges.{Contains-keys}
-use Rattle.solid_sound.proofs.Lists.{contains_cases, contains_first, contains_later, not_in_nil, one_if, same_itself, same_means}
+use Rattle.pk_model.proofs.Keys.{Contains-keys}
+use Rattle.solid_sound.proofs.lists.Neighbours.{one_if, same_itself, same_means}
 use Rattle.solid_calls.specs.Attributes.{attributes_on, is_attribute_on}
+use Rattle.list_facts.proofs.Elements.{not_in_nil, Contains-filter, Contains-first, Contains-later, Contains-cases}
 use Rattle.attributes.specs.Entities.{is_attribute, is_named}
 
 abbrev pub Kid : Type 0
@@ -110,7 +110,7 @@ kids-among m o (t ∷ ts) k h =
         | true ↦ λ same there.
             ⊎_elim (λ (first : (t, e) ≡ k). subst (IsKidOf m o) first (record { live = is; owned = same_owner (owner_of e) o same }))
             (λ (later : Contains (kids_among m (Some o) ts) k). kids-among m o ts k later)
-            (contains_cases (t, e) (kids_among m (Some o) ts) k there)
+            (Contains-cases (t, e) (kids_among m (Some o) ts) k there)
         | false ↦ λ same there. kids-among m o ts k there
       ] refl among
     ] refl h
@@ -119,10 +119,10 @@ pub walked-kids : (m : EntityMap) (o : Tag) (ks : List Kid) → IsPermutation (k
 walked-kids m o ks walked = λ k h. kids-among m o (keys m) k (Contains-permutation ks (kids_of m (Some o)) k (IsPermutation-sym (kids_of m (Some o)) ks walked) h)
 
 pub kids-later : (m : EntityMap) (o : Tag) (old new : List Kid) (k : Kid) → old ≡ k ∷ new → AreKids m o old → AreKids m o new
-kids-later m o old new k is h = λ x among. h x (subst (λ ks. Contains ks x) (sym is) (contains_later k new x among))
+kids-later m o old new k is h = λ x among. h x (subst (λ ks. Contains ks x) (sym is) (Contains-later k new x among))
 
 pub first-kid : (m : EntityMap) (o : Tag) (old new : List Kid) (k : Kid) → old ≡ k ∷ new → AreKids m o old → IsKidOf m o k
-first-kid m o old new k is h = h k (subst (λ ks. Contains ks k) (sym is) (contains_first k new))
+first-kid m o old new k is h = h k (subst (λ ks. Contains ks k) (sym is) (Contains-first k new))
 
 -- a kid is met
 pub kid-met : (m : EntityMap) (o : Tag) (ks : List Kid) → IsPermutation (kids_of m (Some o)) ks → (k : Kid) → IsKidOf m o k → Contains ks k
@@ -137,14 +137,14 @@ kid-met m o ks walked k h = Contains-permutation (kids_of m (Some o)) ks k walke
     among : (ts : List Tag) → Contains ts k.0 → Contains (kids_among m (Some o) ts) k
     among [] there = absurd (not_in_nil k.0 there)
     among (t ∷ ts) there =
-        ⊎_elim (λ (is : t ≡ k.0). subst (λ ks. Contains ks k) (sym (here t ts is)) (contains_first k (kids_among m (Some o) ts)))
+        ⊎_elim (λ (is : t ≡ k.0). subst (λ ks. Contains ks k) (sym (here t ts is)) (Contains-first k (kids_among m (Some o) ts)))
         (λ (later : Contains ts k.0).
         let rest = among ts later in
         elim (kid_at (Some o) t (get m t)) as (λ f. Contains (cons_option f (kids_among m (Some o) ts)) k) [
           | None ↦ rest
-          | Some x ↦ contains_later x (kids_among m (Some o) ts) k rest
+          | Some x ↦ Contains-later x (kids_among m (Some o) ts) k rest
         ])
-        (contains_cases t ts k.0 there)
+        (Contains-cases t ts k.0 there)
 
 -- ---- those that are attributes
 
@@ -181,4 +181,4 @@ pub named-later : (m : EntityMap) (o : Tag) (name : Name) (old new : List Kid) (
 named-later m o name old new k is other all = λ t v h.
     ⊎_elim (λ (e : k ≡ (t, Attr o name v)). absurd (true≢false (sym (ap (λ (x : Kid). is_named name x.1) e ∙ (same_name-Decides name name).1 refl) ∙ other)))
     (λ (later : Contains new (t, Attr o name v)). later)
-    (contains_cases k new (t, Attr o name v) (subst (λ ks. Contains ks (t, Attr o name v)) is (all t v h)))
+    (Contains-cases k new (t, Attr o name v) (subst (λ ks. Contains ks (t, Attr o name v)) is (all t v h)))

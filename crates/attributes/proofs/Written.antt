@@ -10,7 +10,7 @@ use Rattle.pk_base.specs.declared.entity.Class.TheVariants as class
 use Rattle.pk_base.specs.declared.entity.Entity.{Entity}
 use Rattle.pk_base.specs.declared.entity.Entity.TheVariants as entity
 use Rattle.pk_model.specs.Maps.{EntityMap, with_entity}
-use Rattle.pk_model.proofs.TagLists.{ByRecursion-at, contains_only}
+use Rattle.list_facts.proofs.Each.{ByRecursion-at}
 use Rattle.entity_store.proofs.FirstValues.{get_other, get_put}
 use Rattle.solid_model.specs.Items.{Item, Shape, item_at, class_of_item, ◌with◌}
 use Rattle.solid_model.specs.Items.Item.{Body, Shell, Face, Loop, Fin, Edge, Vertex, Attr}
@@ -19,12 +19,14 @@ use Rattle.solid_model.specs.Rings.{is_among}
 use Rattle.solid_model.specs.Deaths.{dies_with, is_attribute_of, ◌without◌}
 use Rattle.solid_model.specs.Links.{links}
 use Rattle.solid_model.specs.Sound.{class_at}
-use Rattle.solid_sound.proofs.Found.{same_or_other}
-use Rattle.solid_sound.proofs.Lists.{contains_first, in-is_among, is_among-in, not_among, not_in_nil}
-use Rattle.solid_sound.proofs.Lookups.{filter-kept, put-other}
-use Rattle.solid_sound.proofs.RowKeeps.{IsWell}
+use Rattle.solid_sound.proofs.shapes.Found.{same_or_other}
+use Rattle.solid_sound.proofs.lists.Neighbours.{in-is_among, is_among-in, not_among}
+use Rattle.solid_sound.proofs.shapes.Lookups.{filter-kept, put-other}
+use Rattle.solid_sound.proofs.rows.RowKeeps.{IsWell}
 use Rattle.solid_calls.proofs.Represented.{Represents, Shows, shows-kept}
 use Rattle.solid_calls.proofs.Reached.{ShowsEdited, ShowsWritten, represented-edited, represented-written}
+use Rattle.list_facts.proofs.Elements.{not_in_nil, Contains-first, Contains-only}
+use Rattle.solid_sound.proofs.shapes.Bodies.{loop_by_item}
 
 -- ---- what stands under the tag is no fin
 
@@ -38,14 +40,9 @@ pub no_fin-attribute : (S : Shape) (t owner : Tag) (name : Name) (value : ℤ) �
 no_fin-attribute S t owner name value is = λ e. let both : Some class.Attr ≡ Some class.Fin = sym (ap (option_map class_of_item) is) ∙ e in cc
 
 fins_are : (S : Shape) → IsWell S → (u : Tag) (x : Item) → item_at S u ≡ Some x → (f : Tag) → Contains (fins_of x) f → class_at S f ≡ Some class.Fin
-fins_are S well u (Loop face fins vertex) is f k = ByRecursion-at (λ g. class_at S g ≡ Some class.Fin) fins f (well.sound.names.kinds u (Loop face fins vertex) is).1 k
-fins_are S well u (Body shell) is f k = absurd (not_in_nil f k)
-fins_are S well u (Shell body q) is f k = absurd (not_in_nil f k)
-fins_are S well u (Face shell outer) is f k = absurd (not_in_nil f k)
-fins_are S well u (Fin mate edge vertex) is f k = absurd (not_in_nil f k)
-fins_are S well u (Edge body) is f k = absurd (not_in_nil f k)
-fins_are S well u (Vertex body point) is f k = absurd (not_in_nil f k)
-fins_are S well u (Attr owner name value) is f k = absurd (not_in_nil f k)
+fins_are S well u x is f k =
+    let w = loop_by_item S f u x is k in
+    ByRecursion-at (λ g. class_at S g ≡ Some class.Fin) w.fins f (well.sound.names.kinds u (Loop w.face w.fins w.vertex) w.loop_is).1 w.among
 
 other_fin : (S : Shape) (t f : Tag) → HasNoFin S t → class_at S f ≡ Some class.Fin → f ≢ t
 other_fin S t f none is e = none (ap (class_at S) (sym e) ∙ is)
@@ -72,7 +69,7 @@ set_shown S m t owner name value well none =
     let to : Option Entity = Some (entity.Attr owner name value) in
     record {
       news = λ u x k.
-          let same : (t, Attr owner name value) ≡ (u, x) = contains_only (t, Attr owner name value) (u, x) k in
+          let same : (t, Attr owner name value) ≡ (u, x) = Contains-only (t, Attr owner name value) (u, x) k in
           subst (λ (y : Tag × Item). Shows R (with_entity m t to) y.0 y.1) same (get_put m t to);
       stays = λ u x is out shown.
           stays_shown S R m t to well none (λ f mate edge vertex is'. put-other S t f (Attr owner name value) (other_fin S t f none (fin_class S f mate edge vertex is')) ∙ is') u x is out.0 shown;
@@ -87,10 +84,10 @@ set-links S m t owner name value well shown none after =
 -- ---- an attribute dies
 
 alone : (t u : Tag) → is_among u (t ∷ []) ≡ true → u ≡ t
-alone t u h = sym (contains_only t u (in-is_among u (t ∷ []) h))
+alone t u h = sym (Contains-only t u (in-is_among u (t ∷ []) h))
 
 is_alone : (t u : Tag) → u ≡ t → is_among u (t ∷ []) ≡ true
-is_alone t u e = is_among-in u (t ∷ []) (subst (Contains (t ∷ [])) (sym e) (contains_first t []))
+is_alone t u e = is_among-in u (t ∷ []) (subst (Contains (t ∷ [])) (sym e) (Contains-first t []))
 
 -- nothing is on what is an attribute itself
 nothing_on : (S : Shape) (t owner : Tag) (name : Name) (value : ℤ) → IsWell S → item_at S t ≡ Some (Attr owner name value) → (u : Tag) (x : Item) → item_at S u ≡ Some x → is_attribute_of (t ∷ []) x ≡ true → ⊥
@@ -107,7 +104,7 @@ nothing_on S t owner name value well here u (Edge body) is h = cc
 nothing_on S t owner name value well here u (Vertex body point) is h = cc
 
 lives_elsewhere : (t u mate edge vertex : Tag) → u ≢ t → dies_with (t ∷ []) (u, Fin mate edge vertex) ≡ false
-lives_elsewhere t u mate edge vertex other = ap (λ b. b || false) (not_among u (t ∷ []) (λ k. other (sym (contains_only t u k))))
+lives_elsewhere t u mate edge vertex other = ap (λ b. b || false) (not_among u (t ∷ []) (λ k. other (sym (Contains-only t u k))))
 
 drop_shown : (S : Shape) (m : EntityMap) (t owner : Tag) (name : Name) (value : ℤ) → IsWell S → item_at S t ≡ Some (Attr owner name value) → ShowsEdited S m (with_entity m t None) [] (t ∷ [])
 drop_shown S m t owner name value well here =

@@ -67,7 +67,7 @@ pub fn set_do<L: Ledger>(
     ensures same_store { rec.new.store.ghost_name ≡ rec.old.store.ghost_name }
 {
     // The owner stands in an owned block.
-    rec.view().blocks();
+    let _blocks = rec.view().blocks();
     let tag = match attribute_named(rec.view(), owner, name, steps) {
         Some(tag) => tag,
         None => take_tag(tags, out),
@@ -113,7 +113,7 @@ pub fn drop_do<L: Ledger>(rec: &mut Recorder<'_>, owner: Tag, name: Name, steps:
     ensures same_store { rec.new.store.ghost_name ≡ rec.old.store.ghost_name }
 {
     // Each live entity stands in an owned block.
-    rec.view().blocks();
+    let _blocks = rec.view().blocks();
     let tag = attribute_named(rec.view(), owner, name, steps).unwrap();
     rec.put(tag, None, steps);
 }

@@ -22,7 +22,7 @@ pub fn drop_all<L: Ledger>(rec: &mut Recorder<'_>, owner: Tag, steps: &mut Steps
 {
     while let Some(tag) = one_attribute(rec.view(), owner, steps) {
         // Each live entity stands in an owned block.
-        rec.view().blocks();
+        let _blocks = rec.view().blocks();
         rec.put(tag, None, steps);
     }
 }

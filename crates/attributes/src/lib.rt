@@ -9,5 +9,3 @@ pub use reads::count_attributes;
 mod calls;
 mod drops;
 mod reads;
-#[cfg(test)]
-mod tests;

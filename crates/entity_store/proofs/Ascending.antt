@@ -1,69 +1,25 @@
 -- Lists of tags that ascend: two that have the same tags are one. What is in a filtered list, and in one that was sorted.
-use Rattle.std.proofs.Common.{◌≡◌, ◌≢◌, ℕ, zero, suc, ◌<◌, ◌≤◌, Bool, true, false, cond, inl, inr, ⊎_elim, List, [], ◌∷◌, ◌++◌, length, get_or, refl, sym, ap, subst, ◌∙◌, arith}
-use Rattle.std.specs.Prelude.{◌⊎◌, map, filter, Contains}
+use Rattle.std.proofs.Common.{◌≡◌, ◌≢◌, ℕ, suc, ◌<◌, ◌≤◌, Bool, true, false, cond, ⊎_elim, List, [], ◌∷◌, ◌++◌, length, get_or, refl, sym, ap, ◌∙◌, arith}
+use Rattle.std.specs.Prelude.{map, filter, Contains}
 use Rattle.std.specs.List.{AllByRecursion, IsDistinct}
 use Rattle.std.specs.List.Sorted.{IsNonDecreasingBy, IsPermutation}
 use Rattle.std.specs.Ordering.{eq_by_cmp}
 use Rattle.std.specs.Cmp.{eq_by_cmp_equiv}
-use Rattle.std.proofs.lemmas.List.Elements.{Contains-get_or, Contains-append_right}
 use Rattle.std.proofs.lemmas.Map.Keys.{IsDistinct-IsPermutation}
 use Rattle.pk_base.specs.Blocks.{tag}
 use Rattle.pk_base.specs.declared.tag.Tag.{Tag}
 use Rattle.pk_model.specs.Apart.{NoRepeats}
 use Rattle.pk_model.specs.Maps.{tag_cmp}
 use Rattle.pk_model.specs.Tags.{TagsAscend}
-use Rattle.pk_model.proofs.TagLists.{ByRecursion-append, ByRecursion-at, ByRecursion-weaker, tag_total, ties_itself, ties_no_other}
+use Rattle.pk_model.proofs.TagLists.{tag_total, ties_itself, ties_no_other}
+use Rattle.list_facts.proofs.Elements.{not_in_nil, Contains-first, Contains-later, Contains-cases}
+use Rattle.list_facts.proofs.Each.{ByRecursion-filter, ByRecursion-append, ByRecursion-weaker, ByRecursion-at}
 use Rattle.entity_store.specs.declared.changes.Change.{Change}
 use Rattle.entity_store.specs.Changes.{AreChanges}
 
 -- ---- what is in a list
 
-pub not_in_nil : {X : Type 0} (x : X) → Contains [] x → ⊥
-not_in_nil x (k, h, e) = omega arith
-
-pub Contains-first : {X : Type 0} (x : X) (xs : List X) → Contains (x ∷ xs) x
-Contains-first x xs = Contains-get_or (x ∷ xs) 0 x (omega arith)
-
-pub Contains-later : {X : Type 0} (x y : X) (xs : List X) → Contains xs y → Contains (x ∷ xs) y
-Contains-later x y xs h = Contains-append_right (x ∷ []) xs y h
-
-pub Contains-cases : {X : Type 0} (x y : X) (xs : List X) → Contains (x ∷ xs) y → (x ≡ y) ⊎ Contains xs y
-Contains-cases x y xs (zero, h, e) = inl e
-Contains-cases x y xs (suc k, h, e) = inr (k, omega arith, e)
-
-pub Contains-filter : {X : Type 0} (p : X → Bool) (xs : List X) (x : X) → Contains xs x → p x ≡ true → Contains (filter p xs) x
-Contains-filter p [] x h k = absurd (not_in_nil x h)
-Contains-filter p (y ∷ ys) x h k =
-    ⊎_elim (λ (e : y ≡ x). subst (λ b. Contains (cond b (y ∷ filter p ys) (filter p ys)) x) (sym (ap p e ∙ k)) (subst (Contains (y ∷ filter p ys)) e (Contains-first y (filter p ys))))
-    (λ (r : Contains ys x).
-    let there = Contains-filter p ys x r k in
-    elim (p y) as (λ b. Contains (cond b (y ∷ filter p ys) (filter p ys)) x) [ true ↦ Contains-later y x (filter p ys) there | false ↦ there ])
-    (Contains-cases y x ys h)
-
-pub filter_contains : {X : Type 0} (p : X → Bool) (xs : List X) (x : X) → Contains (filter p xs) x → Contains xs x × (p x ≡ true)
-filter_contains p [] x h = absurd (not_in_nil x h)
-filter_contains p (y ∷ ys) x h =
-    elim (p y) as (λ b. p y ≡ b → Contains (cond b (y ∷ filter p ys) (filter p ys)) x → Contains (y ∷ ys) x × (p x ≡ true)) [
-      | true ↦ λ e k.
-          ⊎_elim (λ (s : y ≡ x). (subst (Contains (y ∷ ys)) s (Contains-first y ys), ap p (sym s) ∙ e))
-          (λ (r : Contains (filter p ys) x). let q = filter_contains p ys x r in (Contains-later y x ys q.0, q.1))
-          (Contains-cases y x (filter p ys) k)
-      | false ↦ λ e k. let q = filter_contains p ys x k in (Contains-later y x ys q.0, q.1)
-    ] refl h
-
-pub ByRecursion-filter : {X : Type 0} (P : X → Type 0) (p : X → Bool) (xs : List X) → AllByRecursion P xs → AllByRecursion P (filter p xs)
-ByRecursion-filter P p [] h = tt
-ByRecursion-filter P p (x ∷ xs) h =
-    let rest = ByRecursion-filter P p xs h.1 in
-    elim (p x) as (λ b. AllByRecursion P (cond b (x ∷ filter p xs) (filter p xs))) [ true ↦ (h.0, rest) | false ↦ rest ]
-
 -- ---- those that ascend
-
-pub TagsAscend-filter : (p : Tag → Bool) (ts : List Tag) → TagsAscend ts → TagsAscend (filter p ts)
-TagsAscend-filter p [] h = tt
-TagsAscend-filter p (t ∷ ts) h =
-    let rest = TagsAscend-filter p ts h.1 in
-    elim (p t) as (λ b. TagsAscend (cond b (t ∷ filter p ts) (filter p ts))) [ true ↦ (ByRecursion-filter _ p ts h.0, rest) | false ↦ rest ]
 
 less_apart : (t u : Tag) → t ≡ u → t.0 < u.0 → ⊥
 less_apart t u e h = let n : t.0 ≡ u.0 = ap (λ (x : Tag). x.0) e in omega arith
@@ -77,12 +33,12 @@ same_first x y xs ys a b h k =
     let up : x.0 < y.0 = ByRecursion-at (λ (u : Tag). x.0 < u.0) xs y a s in
     let down : y.0 < x.0 = ByRecursion-at (λ (u : Tag). y.0 < u.0) ys x b r in
     absurd (omega arith))
-    (Contains-cases x y xs k))
-    (Contains-cases y x ys h)
+    (Contains-cases x xs y k))
+    (Contains-cases y ys x h)
 
 in_the_rest : (x y t : Tag) (xs ys : List Tag) → x ≡ y → AllByRecursion (λ u. x.0 < u.0) xs → Contains xs t → Contains (y ∷ ys) t → Contains ys t
 in_the_rest x y t xs ys same a h k =
-    ⊎_elim (λ (e : y ≡ t). absurd (less_apart x t (same ∙ e) (ByRecursion-at (λ (u : Tag). x.0 < u.0) xs t a h))) (λ (r : Contains ys t). r) (Contains-cases y t ys k)
+    ⊎_elim (λ (e : y ≡ t). absurd (less_apart x t (same ∙ e) (ByRecursion-at (λ (u : Tag). x.0 < u.0) xs t a h))) (λ (r : Contains ys t). r) (Contains-cases y ys t k)
 
 -- two lists that ascend and have the same tags are one
 pub same_ascending : (xs ys : List Tag) → TagsAscend xs → TagsAscend ys → ((t : Tag) → Contains xs t → Contains ys t) → ((t : Tag) → Contains ys t → Contains xs t) → xs ≡ ys
@@ -91,7 +47,7 @@ same_ascending [] (y ∷ ys) a b f g = absurd (not_in_nil y (g y (Contains-first
 same_ascending (x ∷ xs) [] a b f g = absurd (not_in_nil x (f x (Contains-first x xs)))
 same_ascending (x ∷ xs) (y ∷ ys) a b f g =
     let same : x ≡ y = same_first x y xs ys a.0 b.0 (f x (Contains-first x xs)) (g y (Contains-first y ys)) in
-    let rest = same_ascending xs ys a.1 b.1 (λ t h. in_the_rest x y t xs ys same a.0 h (f t (Contains-later x t xs h))) (λ t h. in_the_rest y x t ys xs (sym same) b.0 h (g t (Contains-later y t ys h))) in
+    let rest = same_ascending xs ys a.1 b.1 (λ t h. in_the_rest x y t xs ys same a.0 h (f t (Contains-later x xs t h))) (λ t h. in_the_rest y x t ys xs (sym same) b.0 h (g t (Contains-later y ys t h))) in
     λ i. same i ∷ rest i
 
 -- ---- tags of which none stands twice, in another order

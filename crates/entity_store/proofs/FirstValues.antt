@@ -1,5 +1,5 @@
 -- The first values that were recorded: the map with them put back, before and after a put; and the changes from them.
-use Rattle.std.proofs.Common.{◌≡◌, ◌≢◌, suc, ◌≤◌, true, false, not, cond, List, [], ◌∷◌, ◌++◌, length, Option, None, Some, ⊎_elim, refl, sym, ap, subst, ◌∙◌, arith}
+use Rattle.std.proofs.Common.{◌≡◌, ◌≢◌, ◌≤◌, true, false, not, cond, List, [], ◌∷◌, ◌++◌, length, Option, None, Some, ⊎_elim, refl, sym, ap, subst, ◌∙◌, arith}
 use Rattle.std.specs.Prelude.{map, filter, Contains}
 use Rattle.std.specs.List.{AllByRecursion, filter_map, cons_option, list_any}
 use Rattle.std.specs.List.Sorted.{IsNonDecreasingBy, IsPermutation}
@@ -17,10 +17,12 @@ use Rattle.pk_base.proofs.Same.{same_tag-Decides}
 use Rattle.pk_model.specs.Apart.{NoRepeats}
 use Rattle.pk_model.specs.Maps.{EntityMap, tag_cmp, with_entity}
 use Rattle.pk_model.proofs.TagLists.{tag_total, tag_antisymmetric, same_from_tie, ties_itself, ties_no_other}
+use Rattle.list_facts.proofs.Elements.{Contains-first, Contains-later, Contains-filter, filter_contains}
+use Rattle.list_facts.proofs.Lengths.{length-filter_map}
 use Rattle.entity_store.specs.declared.changes.Change.{Change}
 use Rattle.entity_store.specs.Changes.{same_value, net_changes}
 use Rattle.entity_store.specs.Recording.{has_put, recorded_put, put_back, change_of}
-use Rattle.entity_store.proofs.Ascending.{tags_changed, Contains-first, Contains-later, Contains-filter, filter_contains, NoRepeats-IsPermutation, NoRepeats-filter, TagsAscend-sorted}
+use Rattle.entity_store.proofs.Ascending.{tags_changed, NoRepeats-IsPermutation, NoRepeats-filter, TagsAscend-sorted}
 use Rattle.entity_store.proofs.NetChanges.{differs_at, change_between, values_from_differs, tags_changed-between, net_changes-is}
 
 abbrev pub Firsts : Type 0
@@ -94,7 +96,7 @@ put_back_other : (m : EntityMap) (ps : Firsts) (q : Tag) → (Contains (tags_put
 put_back_other m [] q h = refl
 put_back_other m (p ∷ ps) q h =
     get_other (put_back m ps) p.0 p.1 q (λ e. h (subst (Contains (tags_put (p ∷ ps))) (sym e) (Contains-first p.0 (tags_put ps))))
-    ∙ put_back_other m ps q (λ k. h (Contains-later p.0 q (tags_put ps) k))
+    ∙ put_back_other m ps q (λ k. h (Contains-later p.0 (tags_put ps) q k))
 
 still_back : (m : EntityMap) (ps : Firsts) (p : Tag × Option Entity) (qs : Firsts) → AllByRecursion (λ u. p.0 ≢ u) (tags_put qs) → AllByRecursion (λ q. get (put_back m ps) q.0 ≡ q.1) qs → AllByRecursion (λ q. get (put_back m (p ∷ ps)) q.0 ≡ q.1) qs
 still_back m ps p [] h k = tt
@@ -121,12 +123,6 @@ changes_from old m (p ∷ ps) h =
 each_between : (old new : EntityMap) (ts : List Tag) → AllByRecursion (λ c. c ≡ change_between old new c.tag) (map (change_between old new) ts)
 each_between old new [] = tt
 each_between old new (t ∷ ts) = (refl, each_between old new ts)
-
-length-filter_map : {X Y : Type 0} (h : X → Option Y) (xs : List X) → length (filter_map h xs) ≤ length xs
-length-filter_map h [] = omega arith
-length-filter_map h (x ∷ xs) =
-    let rest = length-filter_map h xs in
-    elim (h x) as (λ o. length (cons_option o (filter_map h xs)) ≤ suc (length xs)) [ None ↦ omega arith | Some y ↦ omega arith ]
 
 -- they stand after none, and then in another order
 pub IsPermutation-listed : (m : EntityMap) (ps : Firsts) (none xs cs : List Change) → none ≡ [] → xs ≡ none ++ filter_map (change_of m) ps → IsPermutation xs cs → IsPermutation (filter_map (change_of m) ps) cs

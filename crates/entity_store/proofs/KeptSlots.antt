@@ -1,19 +1,18 @@
 -- The slots stay kept: at the beginning, after a write, and after a new block.
-use Rattle.std.proofs.Common.{◌≡◌, ◌≢◌, ℕ, ◌+◌, ◌*◌, ◌<◌, ◌≤◌, ◌==◌, true, false, cond, is_some, List, [], ◌∷◌, ◌++◌, length, replicate, get_or, set, Option, None, Some, refl, sym, ap, subst, ◌∙◌, arith, length-append, length-set}
+use Rattle.std.proofs.Common.{◌≡◌, ◌≢◌, ℕ, ◌+◌, ◌*◌, ◌<◌, ◌≤◌, true, false, cond, is_some, List, [], ◌∷◌, ◌++◌, length, replicate, get_or, set, Option, None, Some, refl, sym, ap, subst, ◌∙◌, arith, length-append, length-set}
 use Rattle.std.specs.Prelude.{IsTrue, MatchOption, nat_lt, ⊤}
 use Rattle.std.specs.List.{list_all}
 use Rattle.std.specs.Ordering.{eq_by_cmp}
 use Rattle.std.specs.FinMap.{get, len, len-empty, get-empty, get-insert, get-remove}
 use Rattle.std.proofs.lemmas.List.{length-replicate}
-use Rattle.std.proofs.lemmas.List.Folds.{list_any-append}
-use Rattle.std.proofs.lemmas.Bool.{or_left}
 use Rattle.pk_base.specs.declared.tag.Tag.{Tag}
 use Rattle.pk_base.specs.declared.entity.Entity.{Entity}
 use Rattle.pk_base.specs.Entity.{owner_of}
-use Rattle.pk_base.specs.Blocks.{block_of}
 use Rattle.pk_model.specs.Tags.{tag_at, tags_of, owns}
 use Rattle.pk_model.specs.Maps.{EntityMap, tag_cmp, with_entity}
-use Rattle.pk_model.proofs.TagLists.{tag_total, Ascends-push, ByRecursion-append, same_from_tie}
+use Rattle.pk_model.proofs.TagLists.{tag_total, Ascends-push, same_from_tie}
+use Rattle.list_facts.proofs.Each.{ByRecursion-append}
+use Rattle.pk_model.proofs.Apartness.{owns-append_left}
 use Rattle.entity_store.specs.Store.{map_of, IsHosted, IfHosted, IsKept}
 use Rattle.entity_store.proofs.MapOf.{map_of-nil, get-map_of_slot, map_of-written, map_of-block, len-map_of}
 use Rattle.entity_store.proofs.Places.{len-with_entity, some_counts}
@@ -72,15 +71,12 @@ fits_after_write blocks slots live i t to k h place =
     let there : get (map_of blocks slots) t ≡ get_or slots i None = ap (get (map_of blocks slots)) (sym place) ∙ get-map_of_slot blocks slots k.ascending k.places i h in
     omega (arith, len-with_entity (map_of blocks slots) t to, ap len written, ap {B = ℕ} (λ o. cond (is_some o) 1 0) there, k.count, len-map_of blocks (set slots i to), length-set slots i to)
 
-owns_more : (blocks more : List ℕ) (t : Tag) → owns blocks t ≡ true → owns (blocks ++ more) t ≡ true
-owns_more blocks more t h = list_any-append (λ b. b == block_of t) blocks more ∙ or_left _ _ h
-
 owner_hosted_more : (blocks more : List ℕ) (t : Tag) (o : Option Tag) → MatchOption o ⊤ (λ u. (u ≢ t) × IsTrue (owns blocks u)) → MatchOption o ⊤ (λ u. (u ≢ t) × IsTrue (owns (blocks ++ more) u))
 owner_hosted_more blocks more t None h = tt
-owner_hosted_more blocks more t (Some u) h = (h.0, owns_more blocks more u h.1)
+owner_hosted_more blocks more t (Some u) h = (h.0, owns-append_left blocks more u h.1)
 
 pub hosted_more : (blocks more : List ℕ) (t : Tag) (e : Entity) → IsHosted blocks t e → IsHosted (blocks ++ more) t e
-hosted_more blocks more t e h = record { owned = owns_more blocks more t h.owned; owner = owner_hosted_more blocks more t (owner_of e) h.owner }
+hosted_more blocks more t e h = record { owned = owns-append_left blocks more t h.owned; owner = owner_hosted_more blocks more t (owner_of e) h.owner }
 
 pub kept_after_block : (blocks : List ℕ) (slots : List (Option Entity)) (live b : ℕ) → IsKept blocks slots live → list_all (λ o. nat_lt o b) blocks ≡ true → 1 ≤ b → b ≤ 262143 → IsKept (blocks ++ b ∷ []) (slots ++ replicate 64 None) live
 kept_after_block blocks slots live b k above low high =

@@ -15,7 +15,9 @@ use Rattle.pk_base.specs.declared.tag.Tag.{Tag}
 use Rattle.pk_base.specs.declared.entity.Entity.{Entity}
 use Rattle.pk_model.specs.Tags.{Ascends, TagsAscend, owns, tags_of}
 use Rattle.pk_model.specs.Maps.{EntityMap, tag_cmp}
-use Rattle.pk_model.proofs.TagLists.{tag_total, tag_antisymmetric, owns-Contains, same_from_tie, ties_itself, ties_no_other, ByRecursion-weaker, TagsAscend-tags_of}
+use Rattle.pk_model.proofs.TagLists.{tag_total, tag_antisymmetric, owns-Contains, same_from_tie, ties_itself, ties_no_other, TagsAscend-tags_of}
+use Rattle.list_facts.proofs.Each.{ByRecursion-weaker}
+use Rattle.pk_model.proofs.Keys.{true_from_T}
 use Rattle.entity_store.specs.Kids.{live_of, kid_at, kids_among, kids_of}
 
 -- ---- in the terms of sorted lists
@@ -109,14 +111,9 @@ each_found (p ∷ ps) s =
     let parts = and_parts (below_all tag_cmp p.0 ps) (is_sorted tag_cmp ps) s in
     (ap (λ b. cond b (Some p.1) (find tag_cmp p.0 ps)) (ties_itself p.0), later_found p ps ps parts.0 (each_found ps parts.1))
 
--- each entity of a map is found under its tag
-pub true_of : (b : Bool) → T b → b ≡ true
-true_of true h = refl
-true_of false h = absurd h
-
 pub all_found : (m : EntityMap) → AllByRecursion (λ p. get m p.0 ≡ Some p.1) (entries m)
 all_found m =
-    let sorted = true_of (is_sorted tag_cmp (entries m)) (entries_sorted m) in
+    let sorted = true_from_T (is_sorted tag_cmp (entries m)) (entries_sorted m) in
     ByRecursion-weaker _ _ (λ p f. get-entries m p.0 ∙ f) (entries m) (each_found (entries m) sorted)
 
 -- ---- walks

@@ -7,7 +7,8 @@ use Rattle.pk_base.specs.declared.entity.Entity.{Entity}
 use Rattle.pk_base.specs.Blocks.{tag}
 use Rattle.pk_model.specs.Tags.{tag_at, tags_of, owns, Ascends}
 use Rattle.pk_model.specs.Maps.{tag_cmp, with_entity}
-use Rattle.pk_model.proofs.TagLists.{tag_total, tag_antisymmetric, length-tags_of, tags_of-nil, tags_of-append, NoRepeats-tags_of, Contains-owns, ByRecursion-contains}
+use Rattle.pk_model.proofs.TagLists.{tag_total, tag_antisymmetric, length-tags_of, tags_of-nil, tags_of-append, NoRepeats-tags_of, Contains-owns}
+use Rattle.list_facts.proofs.Each.{ByRecursion-contains}
 use Rattle.entity_store.specs.Store.{live_entries, map_of}
 use Rattle.entity_store.proofs.Slots.{find_missing, find_slot, find_written}
 

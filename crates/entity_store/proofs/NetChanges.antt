@@ -1,24 +1,22 @@
 -- The net change between two maps: which lists are it, and the three lists among it.
-use Rattle.std.proofs.Common.{◌≡◌, ◌≢◌, ℕ, ◌<◌, nat_lt, ◌==◌, Bool, true, false, not, cond, ◌&&◌, is_none, is_some, List, [], ◌∷◌, ◌++◌, Option, None, Some, refl, sym, ap, subst, ◌∙◌}
-use Rattle.std.specs.Prelude.{map, filter, Contains, T}
+use Rattle.std.proofs.Common.{◌≡◌, ◌≢◌, Bool, true, false, not, cond, ◌&&◌, is_none, is_some, List, [], ◌∷◌, ◌++◌, Option, None, Some, refl, sym, ap, subst, ◌∙◌}
+use Rattle.std.specs.Prelude.{map, filter, Contains}
 use Rattle.std.specs.List.{AllByRecursion, filter_map, cons_option}
-use Rattle.std.specs.Ordering.{eq_by_cmp, is_lt, nat_cmp}
-use Rattle.std.specs.declared.cmp.Ordering.TheVariants.{Less, Equal, Greater}
-use Rattle.std.specs.FinMap.{get, keys, entries, entries_sorted, find, is_sorted, from_entries, contains_key-keys, get-entries, get-from_entries}
-use Rattle.std.specs.FinMap.Entries.{below_all}
-use Rattle.std.proofs.lemmas.Bool.{and_parts, ltb-true}
-use Rattle.std.proofs.lemmas.List.Folds.{list_any_at}
-use Rattle.indexmap.proofs.CallerLemmas.{Contains-list_any}
+use Rattle.std.specs.Ordering.{eq_by_cmp}
+use Rattle.std.specs.FinMap.{get, keys, entries, find, from_entries, get-entries, get-from_entries}
+use Rattle.std.proofs.lemmas.Bool.{not-true}
 use Rattle.pk_base.specs.declared.tag.Tag.{Tag}
 use Rattle.pk_base.specs.declared.entity.Entity.{Entity}
 use Rattle.pk_base.specs.Entity.{same_entity}
 use Rattle.pk_base.proofs.Same.{same_entity-Decides}
 use Rattle.pk_model.specs.Tags.{TagsAscend}
 use Rattle.pk_model.specs.Maps.{EntityMap, tag_cmp, differ, fresh_tags, gone_tags, changed_tags, diff}
-use Rattle.pk_model.proofs.TagLists.{tag_total, same_from_tie, ties_itself}
+use Rattle.pk_model.proofs.TagLists.{tag_total}
+use Rattle.list_facts.proofs.Elements.{not_in_nil, Contains-filter, filter_contains}
+use Rattle.pk_model.proofs.Keys.{TagsAscend-filter, Contains-keys, keys_contain, TagsAscend-keys}
 use Rattle.entity_store.specs.declared.changes.Change.{Change}
 use Rattle.entity_store.specs.Changes.{AreChanges, same_value, tags_of_either, change_at, net_changes, lists_among}
-use Rattle.entity_store.proofs.Ascending.{tags_changed, TagsAscend-filter, same_ascending, Contains-filter, filter_contains, not_in_nil}
+use Rattle.entity_store.proofs.Ascending.{tags_changed, same_ascending}
 
 -- ---- values that differ
 
@@ -39,47 +37,7 @@ values_that_differ (Some a) (Some b) h =
       | false ↦ λ e. refl
     ] refl
 
-false_from_not : (b : Bool) → not b ≡ true → b ≡ false
-false_from_not true h = cc
-false_from_not false h = refl
-
 -- ---- the tags of a map
-
-true_from_T : (b : Bool) → T b → b ≡ true
-true_from_T true h = refl
-true_from_T false h = absurd h
-
-below_from_lt : (x y : ℕ) → is_lt (nat_cmp x y) ≡ true → x < y
-below_from_lt x y h =
-    elim (nat_lt x y) as (λ b. nat_lt x y ≡ b → is_lt (cond b Less (cond (x == y) Equal Greater)) ≡ true → x < y) [
-      | true ↦ λ e k. ltb-true x y e
-      | false ↦ λ e k. absurd (never (x == y) k)
-    ] refl h
-  where
-    never : (b : Bool) → is_lt (cond b Equal Greater) ≡ true → ⊥
-    never true k = cc
-    never false k = cc
-
-key_below : (t : Tag) (es : List (Tag × Entity)) → below_all tag_cmp t es ≡ true → AllByRecursion (λ u. t.0 < u.0) (map (λ e. e.0) es)
-key_below t [] h = tt
-key_below t (e ∷ es) h =
-    let parts = and_parts (is_lt (tag_cmp t e.0)) (below_all tag_cmp t es) h in
-    (below_from_lt t.0 e.0.0 parts.0, key_below t es parts.1)
-
-keys_ascend : (es : List (Tag × Entity)) → is_sorted tag_cmp es ≡ true → TagsAscend (map (λ e. e.0) es)
-keys_ascend [] h = tt
-keys_ascend (e ∷ es) h =
-    let parts = and_parts (below_all tag_cmp e.0 es) (is_sorted tag_cmp es) h in
-    (key_below e.0 es parts.0, keys_ascend es parts.1)
-
-pub TagsAscend-keys : (m : EntityMap) → TagsAscend (keys m)
-TagsAscend-keys m = keys_ascend (entries m) (true_from_T _ (entries_sorted m))
-
-pub Contains-keys : (m : EntityMap) (t : Tag) → is_some (get m t) ≡ true → Contains (keys m) t
-Contains-keys m t h = Contains-list_any (eq_by_cmp tag_cmp) same_from_tie (keys m) t (sym (contains_key-keys m t) ∙ h)
-
-pub keys_contain : (m : EntityMap) (t : Tag) → Contains (keys m) t → is_some (get m t) ≡ true
-keys_contain m t h = contains_key-keys m t ∙ list_any_at (eq_by_cmp tag_cmp t) (keys m) h.0 t h.1 (ap (eq_by_cmp tag_cmp t) h.2 ∙ ties_itself t)
 
 none_in_either : (t : Tag) (es fs : List (Tag × Entity)) → is_some (find tag_cmp t (es ++ fs)) ≡ false → (is_some (find tag_cmp t es) ≡ false) × (is_some (find tag_cmp t fs) ≡ false)
 none_in_either t [] fs h = (refl, h)
@@ -106,7 +64,7 @@ pub differs_from_values : (old new : EntityMap) (t : Tag) → get old t ≢ get 
 differs_from_values old new t h = ap not (values_that_differ (get old t) (get new t) h)
 
 pub values_from_differs : (old new : EntityMap) (t : Tag) → differs_at old new t ≡ true → get old t ≢ get new t
-values_from_differs old new t h = different_values (get old t) (get new t) (false_from_not _ h)
+values_from_differs old new t h = different_values (get old t) (get new t) (not-true _ h)
 
 -- a tag at which the maps differ is a tag of one of them
 pub Contains-either : (old new : EntityMap) (t : Tag) → differs_at old new t ≡ true → Contains (tags_of_either old new) t

@@ -12,7 +12,8 @@ use Rattle.pk_base.specs.declared.entity.Entity.{Entity}
 use Rattle.pk_base.specs.Blocks.{tag, block_of}
 use Rattle.pk_model.specs.Tags.{tag_at, tags_of, owns, Ascends}
 use Rattle.pk_model.specs.Maps.{EntityMap, tag_cmp, with_entity}
-use Rattle.pk_model.proofs.TagLists.{ByRecursion-get_or, tag_total, tag_at-tags_of}
+use Rattle.pk_model.proofs.TagLists.{tag_total, tag_at-tags_of}
+use Rattle.list_facts.proofs.Each.{ByRecursion-get_or}
 
 ascending_at : (bs : List ℕ) (i j : ℕ) → Ascends bs → i ≤ j → j < length bs → get_or bs i 0 ≤ get_or bs j 0
 ascending_at [] i j a l h = absurd (omega arith)

@@ -7,7 +7,8 @@ use Rattle.pk_base.specs.declared.tag.Tag.{Tag}
 use Rattle.pk_base.specs.declared.entity.Entity.{Entity}
 use Rattle.pk_model.specs.Maps.{tag_cmp}
 use Rattle.pk_model.specs.Apart.{NoRepeats}
-use Rattle.pk_model.proofs.TagLists.{ByRecursion-get_or, same_from_tie, ties_itself, ties_no_other}
+use Rattle.pk_model.proofs.TagLists.{same_from_tie, ties_itself, ties_no_other}
+use Rattle.list_facts.proofs.Each.{ByRecursion-get_or}
 use Rattle.entity_store.specs.Store.{live_entries}
 
 -- a tag of none of the slots is not found

@@ -19,5 +19,3 @@ mod recorder;
 mod steps;
 mod store;
 mod tags;
-#[cfg(test)]
-mod tests;

@@ -1,4 +1,4 @@
--- What each step of kef asks for, and that the last one does what the row says.
+-- kef: what each step asks for, and that the last one does what the row says.
 use Rattle.std.proofs.Common.{◌≡◌, ⊎_elim, List, [], ◌∷◌, ◌++◌, drop, Some, refl, sym, ap, subst, ◌∙◌, arith}
 use Rattle.std.specs.Prelude.{IsSome, is_some, Contains, IsTrue}
 use Rattle.std.specs.List.{AllByRecursion, flat_map}
@@ -10,11 +10,11 @@ use Rattle.pk_base.specs.declared.call.Call.TheVariants.{Kef}
 use Rattle.pk_model.specs.Apart.{NoRepeats}
 use Rattle.pk_model.specs.Maps.{EntityMap}
 use Rattle.pk_model.specs.Tags.{owns}
-use Rattle.pk_model.proofs.TagLists.{ByRecursion-weaker}
+use Rattle.list_facts.proofs.Each.{ByRecursion-weaker}
 use Rattle.entity_store.specs.Recording.{HasRoomFor}
 use Rattle.entity_store.specs.Store.{Stored, StoreView}
 use Rattle.solid_model.specs.Sound.{IsSound}
-use Rattle.solid_sound.proofs.RowKeeps.{sound-links}
+use Rattle.solid_sound.proofs.rows.RowKeeps.{sound-links}
 use Rattle.solid_model.specs.Items.{Shape}
 use Rattle.solid_model.specs.Links.{links}
 use Rattle.solid_model.specs.Places.{PlacedFin}
@@ -22,16 +22,17 @@ use Rattle.solid_model.specs.Room.{puts_of}
 use Rattle.solid_model.specs.Shapes.{shape_of}
 use Rattle.solid_calls.specs.Attributes.{attributes_on}
 use Rattle.solid_calls.specs.LinkedRings.{IsInRing, IsRing, Relabels, Relinks, ends_of, mate_in, next_at, ring_at}
-use Rattle.solid_calls.specs.Pairs.{HasDone, reached, row_on}
+use Rattle.solid_calls.specs.Pairs.{HasDone}
 use Rattle.solid_calls.specs.Room.{HasRoomForThese, PutsAmong}
 use Rattle.solid_calls.proofs.Represented.{Represents, represented}
-use Rattle.solid_calls.proofs.Room.{puts-then, puts-wider, records-of, room-after, room-for_one, room-part}
-use Rattle.solid_edits.proofs.Puts.{both-ends_among, each-among, owned-still, stored-is}
+use Rattle.solid_calls.proofs.Room.{records-of, room-part}
+use Rattle.solid_edits.proofs.Puts.{both-ends_among, each-among}
+use Rattle.solid_edits.proofs.Stages.{IsStage, only-put, stage-none, stage-owns, stage-room, stage-room_one, stage-then}
 use Rattle.solid_edits.proofs.EditedMaps.{with_loop}
 use Rattle.solid_edits.specs.Deaths.{Kills}
 use Rattle.solid_edits.proofs.KilledMaps.{with_attributes-within}
 use Rattle.euler_kill.proofs.KefReached.{first-among, kef-represented, kef_fins, kef_killed, second-among}
-use Rattle.euler_kill.proofs.KefRoom.{KefGoes, kef_dead, kef_puts, kef_reaches}
+use Rattle.euler_kill.proofs.KefFound.{KefGoes, kef_dead, kef_puts, kef_reaches}
 use Rattle.euler_kill.proofs.KefSteps.{attributes-were, joined-in_ring, joined-other, joined-ring_at, kef-reached, loops-once, named-in_ring, x-goes_on, x-mate, x-next}
 
 -- what the ring of x is asked for, to be joined with that of its mate
@@ -139,11 +140,8 @@ module _ (s : StoreView) (x : Tag) (u v : PlacedFin) (G : KefGoes s x u v) where
     joined : Relinks m (u.fins ∷ v.fins ∷ []) m1 (N ∷ (x ∷ []) ∷ (u.mate ∷ []) ∷ [])
     joined = subst (λ (z : List Tag × List Tag × List Tag × Tag). Relinks m (z.0 ∷ z.1 ∷ []) m1 (z.2 ∷ (x ∷ []) ∷ (z.3 ∷ []) ∷ [])) (λ i. (sym G.fin_fins i, mate_fins i, runs_are i, mate_is i)) links1
 
-    blocks1 : s1.state.blocks ≡ s.state.blocks
-    blocks1 = ap (λ (z : Stored). z.blocks) state1
-
-    room1 : HasRoomForThese s1.recording ts
-    room1 = room-after ts linked s s1 G.room puts1 linked_among
+    one : IsStage ts s s1
+    one = stage-then ts linked s s s1 (stage-none ts s) linked_among state1 puts1
 
     ring1 : ring_at m1 first ≡ N
     ring1 = ap (ring_at m1) (sym first_same) ∙ joined-ring_at S m G.well G.rep x u v G.fin G.mate G.two u_ring v_ring m1 joined
@@ -152,7 +150,7 @@ module _ (s : StoreView) (x : Tag) (u v : PlacedFin) (G : KefGoes s x u v) where
     label-ring = subst (IsInRing m1) first_same (joined-in_ring S m G.well G.rep x u v G.fin G.mate G.two u_ring v_ring m1 joined)
 
     pub label-owned : IsTrue (owns s1.state.blocks v.loop_)
-    label-owned = owned-still s1.state s.state v.loop_ blocks1 G.loop_owned
+    label-owned = stage-owns ts s s1 v.loop_ one G.loop_owned
 
     pub label-other : ¬ (Contains (ring_at m1 first) v.loop_)
     label-other = subst (λ q. ¬ (Contains (ring_at m1 q) v.loop_)) first_same (joined-other S m G.well G.rep x u v G.fin G.mate G.two u_ring v_ring m1 joined)
@@ -161,7 +159,7 @@ module _ (s : StoreView) (x : Tag) (u v : PlacedFin) (G : KefGoes s x u v) where
     named_among t k = left_among t (subst (λ z. Contains z t) ring1 k)
 
     pub label-room : HasRoomForThese s1.recording (ring_at m1 first)
-    label-room = room-part s1.recording ts (ring_at m1 first) room1 named_among
+    label-room = stage-room ts (ring_at m1 first) s s1 G.room one named_among
 
     -- ---- once its fins name the loop
 
@@ -172,23 +170,20 @@ module _ (s : StoreView) (x : Tag) (u v : PlacedFin) (G : KefGoes s x u v) where
       labels : Relabels m1 (ring_at m1 p) v.loop_ m2
       labels = subst (λ q. Relabels m1 (ring_at m1 q) v.loop_ m2) (sym first_same) labels2
 
-      blocks2 : s2.state.blocks ≡ s.state.blocks
-      blocks2 = ap (λ (z : Stored). z.blocks) state2 ∙ blocks1
-
-      room2 : HasRoomForThese s2.recording ts
-      room2 = room-after ts (ring_at m1 first) s1 s2 room1 puts2 named_among
+      two : IsStage ts s s2
+      two = stage-then ts (ring_at m1 first) s s1 s2 one named_among state2 puts2
 
       pub loop-ring : IsInRing m2 first
       loop-ring = subst (IsInRing m2) first_same (named-in_ring S m G.well G.rep x u v G.fin G.mate G.two u_ring v_ring m1 joined m2 labels)
 
       pub loop-owned : IsTrue (owns s2.state.blocks v.loop_)
-      loop-owned = owned-still s2.state s.state v.loop_ blocks2 G.loop_owned
+      loop-owned = stage-owns ts s s2 v.loop_ two G.loop_owned
 
       pub loop-face_owned : IsTrue (owns s2.state.blocks v.face)
-      loop-face_owned = owned-still s2.state s.state v.face blocks2 G.face_owned
+      loop-face_owned = stage-owns ts s s2 v.face two G.face_owned
 
       pub loop-room : HasRoomFor s2.recording v.loop_
-      loop-room = room-for_one s2.recording ts v.loop_ room2 (loop_among v.loop_ (0, omega arith, refl))
+      loop-room = stage-room_one ts s s2 v.loop_ G.room two (loop_among v.loop_ (0, omega arith, refl))
 
       -- ---- once the loop is put
 
@@ -199,14 +194,11 @@ module _ (s : StoreView) (x : Tag) (u v : PlacedFin) (G : KefGoes s x u v) where
         map3 : m3 ≡ with_loop m2 v.loop_ v.face p
         map3 = ap (λ (z : Stored). z.map) state3 ∙ ap (with_loop m2 v.loop_ v.face) (sym first_same)
 
-        blocks3 : s3.state.blocks ≡ s.state.blocks
-        blocks3 = ap (λ (z : Stored). z.blocks) state3 ∙ blocks2
-
-        room3 : HasRoomForThese s3.recording ts
-        room3 = room-after ts (v.loop_ ∷ []) s2 s3 room2 puts3 loop_among
+        three : IsStage ts s s3
+        three = stage-then ts (v.loop_ ∷ []) s s2 s3 two loop_among (only-put s2.state s3.state (with_loop m2 v.loop_ v.face first) state3) puts3
 
         pub side-owned : AllByRecursion (λ t. IsTrue (owns s3.state.blocks t)) killed
-        side-owned = ByRecursion-weaker (λ t. IsTrue (owns s.state.blocks t)) (λ t. IsTrue (owns s3.state.blocks t)) (λ t k. owned-still s3.state s.state t blocks3 k) killed G.owned
+        side-owned = ByRecursion-weaker (λ t. IsTrue (owns s.state.blocks t)) (λ t. IsTrue (owns s3.state.blocks t)) (λ t k. stage-owns ts s s3 t three k) killed G.owned
 
         -- no attribute has come
         fewer : (t : Tag) → Contains (kef_dead m3 x u) t → Contains (kef_dead m x u) t
@@ -217,30 +209,22 @@ module _ (s : StoreView) (x : Tag) (u v : PlacedFin) (G : KefGoes s x u v) where
         side_among t k = dead_among t (fewer t k)
 
         pub side-room : HasRoomForThese s3.recording (kef_dead m3 x u)
-        side-room = room-part s3.recording ts (kef_dead m3 x u) room3 side_among
+        side-room = stage-room ts (kef_dead m3 x u) s s3 G.room three side_among
 
         -- ---- once the face of x is dead
 
         module _ (s4 : StoreView) (kills4 : Kills m3 killed s4.state.map)
             (state4 : s4.state ≡ record s3.state { map = s4.state.map }) (puts4 : PutsAmong (kef_dead m3 x u) s3 s4) where
-          blocks4 : s4.state.blocks ≡ s.state.blocks
-          blocks4 = ap (λ (z : Stored). z.blocks) state4 ∙ blocks3
+          four : IsStage ts s s4
+          four = stage-then ts (kef_dead m3 x u) s s3 s4 three side_among state4 puts4
 
           shows : Represents (kef_reaches S x u v) s4.state.map
           shows = kef-represented S G.well x u v G.fin G.mate G.two m s4.state.map G.rep
               (kef-reached S m G.well G.rep x u v G.fin G.mate G.two u_ring v_ring m1 joined m2 labels s4.state.map (subst (λ z. Kills z killed s4.state.map) map3 kills4))
 
-          puts : PutsAmong ts s s4
-          puts =
-              let one = puts-wider linked ts s s1 puts1 linked_among in
-              let two = puts-wider (ring_at m1 first) ts s1 s2 puts2 named_among in
-              let three = puts-wider (v.loop_ ∷ []) ts s2 s3 puts3 loop_among in
-              let four = puts-wider (kef_dead m3 x u) ts s3 s4 puts4 side_among in
-              puts-then ts s s3 s4 (puts-then ts s s2 s3 (puts-then ts s s1 s2 one two) three) four
-
           pub kef-done : HasDone s (Kef x) [] s4
           kef-done = record {
-            state = stored-is s4.state s.state (links (reached S [] (row_on m (Kef x)))) blocks4 (represented (kef_reaches S x u v) s4.state.map G.reached_well shows ∙ ap links (sym G.is));
+            state = four.state ∙ ap (λ (n : EntityMap). record s.state { map = n }) (represented (kef_reaches S x u v) s4.state.map G.reached_well shows ∙ ap links (sym G.is));
             sound = subst IsSound (sym (represented (kef_reaches S x u v) s4.state.map G.reached_well shows)) (sound-links (kef_reaches S x u v) G.reached_well);
-            records = records-of ts (puts_of S (Kef x)) s s4 puts G.few;
+            records = records-of ts (puts_of S (Kef x)) s s4 four.puts G.few;
           }

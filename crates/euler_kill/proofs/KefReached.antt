@@ -1,4 +1,4 @@
--- The map that is reached by kef, tag by tag, and that it is the one of the shape of kef's row.
+-- kef: the map that is reached, and that it is that of the shape of its row.
 use Rattle.std.proofs.Common.{◌≡◌, ◌≢◌, ⊎_elim, Bool, true, false, not, List, [], ◌∷◌, ◌++◌, drop, Option, Some, None, refl, sym, ap, subst, ◌∙◌}
 use Rattle.std.specs.Prelude.{T, ℤ, option_map, Contains}
 use Rattle.std.specs.List.{AllByRecursion}
@@ -13,7 +13,6 @@ use Rattle.pk_base.specs.declared.entity.Class.{Class}
 use Rattle.pk_base.specs.declared.entity.Class.TheVariants as class
 use Rattle.pk_model.specs.Apart.{NoRepeats}
 use Rattle.pk_model.specs.Maps.{EntityMap, tag_cmp}
-use Rattle.pk_model.proofs.TagLists.{ByRecursion-at, ByRecursion-contains}
 use Rattle.solid_model.specs.Items.{Item, Shape, item_at, class_of_item, ◌with◌}
 use Rattle.solid_model.specs.Items.Item.{Loop, Fin, Attr}
 use Rattle.solid_model.specs.Deaths.{dies_with, is_attribute_of, ◌without◌}
@@ -22,20 +21,22 @@ use Rattle.solid_model.specs.Owners.{fins_of}
 use Rattle.solid_model.specs.Places.{PlacedFin}
 use Rattle.solid_model.specs.Sound.{class_at}
 use Rattle.solid_calls.specs.LinkedRings.{IsRing, loop_named}
-use Rattle.solid_sound.proofs.Changed.{NoneOf}
-use Rattle.solid_sound.proofs.Cycles.{least-in}
-use Rattle.solid_sound.proofs.Edits.{class_apart}
-use Rattle.solid_sound.proofs.Ends.{FinIn}
-use Rattle.solid_sound.proofs.Found.{none_or_some, same_or_other}
-use Rattle.solid_sound.proofs.Lists.{contains_first, contains_later, neither_from, neither_parts}
-use Rattle.solid_sound.proofs.Lookups.{Items, filter-kept, filter-was, with-other, with-sorted, with-written}
-use Rattle.solid_sound.proofs.Reading.{fin_in}
-use Rattle.solid_sound.proofs.RowKeeps.{IsWell}
+use Rattle.solid_sound.proofs.lists.Cycles.{least-in}
+use Rattle.solid_sound.proofs.shapes.Edits.{class_apart}
+use Rattle.solid_sound.proofs.edges.Ends.{FinIn}
+use Rattle.solid_sound.proofs.shapes.Found.{none_or_some, same_or_other}
+use Rattle.solid_sound.proofs.lists.Neighbours.{neither_from, neither_parts, NoneOf, none-is, is-none, among_or_not}
+use Rattle.solid_sound.proofs.shapes.Lookups.{Items, filter-kept, filter-was, with-other, with-sorted, with-written}
+use Rattle.solid_sound.proofs.shapes.Reading.{fin_in}
+use Rattle.solid_sound.proofs.rows.RowKeeps.{IsWell}
 use Rattle.solid_calls.proofs.LinkedRings.{ring-least}
 use Rattle.solid_calls.proofs.Represented.{Represents, Shows, shows-kept}
-use Rattle.solid_edits.proofs.EditedMaps.{HasFin, among_or_not}
-use Rattle.solid_edits.proofs.KilledMaps.{attribute-of, is-none, none-is, shown-attribute}
-use Rattle.solid_edits.proofs.PlacedFins.{loop_with_fins, placed-fin, placed-loop, placed-other}
+use Rattle.solid_edits.proofs.EditedMaps.{HasFin}
+use Rattle.solid_edits.proofs.KilledMaps.{attribute-of, shown-attribute}
+use Rattle.solid_edits.proofs.PlacedFins.{placed-fin, placed-loop, placed-other}
+use Rattle.list_facts.proofs.Elements.{Contains-first, Contains-later}
+use Rattle.list_facts.proofs.Each.{ByRecursion-contains, ByRecursion-at}
+use Rattle.solid_sound.proofs.shapes.Bodies.{loop_by_item}
 
 -- the fins of the loop that is left, from the one after x on
 abbrev pub kef_fins : PlacedFin → PlacedFin → List Tag
@@ -143,32 +144,32 @@ module _ (S : Shape) (well : IsWell S) (x : Tag) (u v : PlacedFin) (U : FinIn S 
   -- ---- the fins
 
   x_among : Contains u.fins x
-  x_among = subst (λ ts. Contains ts x) (sym U.fins_are) (contains_first x U.rest)
+  x_among = subst (λ ts. Contains ts x) (sym U.fins_are) (Contains-first x U.rest)
 
   mate_among : Contains v.fins u.mate
-  mate_among = subst (λ ts. Contains ts u.mate) (sym V.fins_are) (contains_first u.mate V.rest)
+  mate_among = subst (λ ts. Contains ts u.mate) (sym V.fins_are) (Contains-first u.mate V.rest)
 
   pub first-among : (t : Tag) → Contains (drop 1 u.fins) t → Contains u.fins t
-  first-among t k = subst (λ ts. Contains ts t) (sym U.fins_are) (contains_later x U.rest t (subst (λ ts. Contains (drop 1 ts) t) U.fins_are k))
+  first-among t k = subst (λ ts. Contains ts t) (sym U.fins_are) (Contains-later x U.rest t (subst (λ ts. Contains (drop 1 ts) t) U.fins_are k))
 
   pub second-among : (t : Tag) → Contains (drop 1 v.fins) t → Contains v.fins t
-  second-among t k = subst (λ ts. Contains ts t) (sym V.fins_are) (contains_later u.mate V.rest t (subst (λ ts. Contains (drop 1 ts) t) V.fins_are k))
+  second-among t k = subst (λ ts. Contains ts t) (sym V.fins_are) (Contains-later u.mate V.rest t (subst (λ ts. Contains (drop 1 ts) t) V.fins_are k))
 
   -- each that is left is a fin of one loop or the other
   pub left-fin : (t : Tag) → Contains N t → (mate : Tag) × (e : Tag) × (vertex : Tag) × (item_at S t ≡ Some (Fin mate e vertex))
   left-fin t k = ⊎_elim
-      (λ (l : Contains (drop 1 u.fins) t). placed-fin S well x u U t (first-among t l))
-      (λ (r : Contains (drop 1 v.fins) t). placed-fin S well u.mate v V t (second-among t r))
+      (λ (l : Contains (drop 1 u.fins) t). placed-fin well U.end t (first-among t l))
+      (λ (r : Contains (drop 1 v.fins) t). placed-fin well V.end t (second-among t r))
       (Contains-append_cases (drop 1 u.fins) (drop 1 v.fins) t k)
 
   -- another loop has none of them
   other_loop : (t face : Tag) (fins : List Tag) (vertex : Option Tag) → item_at S t ≡ Some (Loop face fins vertex) → t ≢ u.loop_ → t ≢ v.loop_ → (q : Tag) → Contains fins q → (q ≢ x) × (q ≢ u.mate) × (¬ (Contains N q))
   other_loop t face fins vertex is tu tv q k = (
-    (λ e. tu (placed-loop S well x u U t face fins vertex is x (subst (Contains fins) e k) x_among)),
-    (λ e. tv (placed-loop S well u.mate v V t face fins vertex is u.mate (subst (Contains fins) e k) mate_among)),
+    (λ e. tu (placed-loop well U.end t face fins vertex is x (subst (Contains fins) e k) x_among)),
+    (λ e. tv (placed-loop well V.end t face fins vertex is u.mate (subst (Contains fins) e k) mate_among)),
     (λ j. ⊎_elim {C = ⊥}
-        (λ (l : Contains (drop 1 u.fins) q). tu (placed-loop S well x u U t face fins vertex is q k (first-among q l)))
-        (λ (r : Contains (drop 1 v.fins) q). tv (placed-loop S well u.mate v V t face fins vertex is q k (second-among q r)))
+        (λ (l : Contains (drop 1 u.fins) q). tu (placed-loop well U.end t face fins vertex is q k (first-among q l)))
+        (λ (r : Contains (drop 1 v.fins) q). tv (placed-loop well V.end t face fins vertex is q k (second-among q r)))
         (Contains-append_cases (drop 1 u.fins) (drop 1 v.fins) q j)),
   )
 
@@ -186,7 +187,7 @@ module _ (S : Shape) (well : IsWell S) (x : Tag) (u v : PlacedFin) (U : FinIn S 
     sorted = with-sorted S xs well.written.ascends
 
     loop_there : item_at (S with xs) v.loop_ ≡ Some (ring_of v.face N)
-    loop_there = with-written S xs v.loop_ (ring_of v.face N) (tt, tt) (contains_first (v.loop_, ring_of v.face N) [])
+    loop_there = with-written S xs v.loop_ (ring_of v.face N) (tt, tt) (Contains-first (v.loop_, ring_of v.face N) [])
 
     alive : (t : Tag) (i : Item) → NoneOf t killed → is_attribute_of killed i ≡ false → lives (t, i) ≡ true
     alive t i none not_on = neither_from (is_among t killed) (is_attribute_of killed i) (is-none t killed none) not_on
@@ -196,7 +197,7 @@ module _ (S : Shape) (well : IsWell S) (x : Tag) (u v : PlacedFin) (U : FinIn S 
     fin_stays t q mate e vertex none is same =
         let qx : q ≢ x = λ i. let both : Some (Fin mate e vertex) ≡ Some (Fin u.mate u.edge u.vertex) = sym is ∙ ap (item_at S) i ∙ U.fin_is in let edge_is : e ≡ u.edge = cc in none.1.1.1.1.0 (sym same ∙ edge_is) in
         let qm : q ≢ u.mate = λ i. let both : Some (Fin mate e vertex) ≡ Some (Fin v.mate v.edge v.vertex) = sym is ∙ ap (item_at S) i ∙ V.fin_is in let edge_is : e ≡ v.edge = cc in none.1.1.1.1.0 (sym same ∙ edge_is ∙ mate-edge) in
-        filter-kept lives (S with xs) q (Fin mate e vertex) (with-other S xs q (placed-other S well u.mate v V q mate e vertex is, tt) ∙ is)
+        filter-kept lives (S with xs) q (Fin mate e vertex) (with-other S xs q (placed-other well V.end q mate e vertex is, tt) ∙ is)
         (alive q (Fin mate e vertex) (fin-lives q mate e vertex is qx qm) refl)
 
     -- a fin is no attribute
@@ -207,12 +208,10 @@ module _ (S : Shape) (well : IsWell S) (x : Tag) (u v : PlacedFin) (U : FinIn S 
 
     other_fins : (t : Tag) (i : Item) → item_at S t ≡ Some i → NoneOf t killed → t ≢ v.loop_ → (q : Tag) → Contains (fins_of i) q → get n q ≡ get m q
     other_fins t i is none other q k =
-        let loop = loop_with_fins i q k in
-        let loop_is : item_at S t ≡ Some (Loop loop.0 loop.1 loop.2) = is ∙ ap Some loop.3 in
-        let among : Contains loop.1 q = subst (λ z. Contains (fins_of z) q) loop.3 k in
-        let fin = fin_in S well.written well.sound t loop.0 loop.1 loop.2 loop_is q among in
-        let apart = other_loop t loop.0 loop.1 loop.2 loop_is none.0 other q among in
-        now.kept q (fin-lives q fin.0 fin.1 fin.2 fin.3 apart.0 apart.1) (placed-other S well u.mate v V q fin.0 fin.1 fin.2 fin.3) apart.2 (no_attribute q fin.0 fin.1 fin.2 fin.3)
+        let w = loop_by_item S q t i is k in
+        let fin = fin_in S well.written well.sound t w.face w.fins w.vertex w.loop_is q w.among in
+        let apart = other_loop t w.face w.fins w.vertex w.loop_is none.0 other q w.among in
+        now.kept q (fin-lives q fin.0 fin.1 fin.2 fin.3 apart.0 apart.1) (placed-other well V.end q fin.0 fin.1 fin.2 fin.3) apart.2 (no_attribute q fin.0 fin.1 fin.2 fin.3)
 
     shows_old : (t : Tag) (i : Item) → item_at S t ≡ Some i → t ≢ v.loop_ → NoneOf t killed → is_attribute_of killed i ≡ false → Shows R n t i
     shows_old t i is other none not_on = ⊎_elim {C = Shows R n t i}

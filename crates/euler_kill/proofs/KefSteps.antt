@@ -1,4 +1,4 @@
--- The steps by which kef comes from one map to the next, and that the last map is the one reached.
+-- kef: the steps from one map to the next.
 use Rattle.std.proofs.Common.{◌≡◌, ◌≢◌, ⊎_elim, List, [], ◌∷◌, ◌++◌, drop, Option, Some, None, refl, sym, ap, subst, ◌∙◌}
 use Rattle.std.specs.Prelude.{ℤ, unwrap_or, Contains}
 use Rattle.std.specs.Option.{option_map_or, option_and_then}
@@ -13,19 +13,18 @@ use Rattle.pk_base.specs.declared.entity.Entity.{Entity}
 use Rattle.pk_base.specs.declared.entity.Entity.TheVariants as entity
 use Rattle.pk_model.specs.Apart.{NoRepeats}
 use Rattle.pk_model.specs.Maps.{EntityMap}
-use Rattle.pk_model.proofs.TagLists.{ByRecursion-at, ByRecursion-contains, NoRepeats-append}
+use Rattle.pk_model.proofs.TagLists.{NoRepeats-append}
 use Rattle.solid_model.specs.Items.{Item, Shape}
 use Rattle.solid_model.specs.Items.Item.{Fin}
 use Rattle.solid_model.specs.Rings.{first_tag, from_least, neighbours}
 use Rattle.solid_model.specs.Places.{PlacedFin, mate_of, start_at, vertex_of}
 use Rattle.solid_model.specs.Sound.{end_of}
 use Rattle.solid_calls.specs.LinkedRings.{IsInRing, IsRing, Relabels, Relinks, as_fin, mate_in, next_at, ring_at}
-use Rattle.solid_sound.proofs.Changed.{NoneOf}
-use Rattle.solid_sound.proofs.Cycles.{written-itself}
-use Rattle.solid_sound.proofs.Ends.{FinIn}
-use Rattle.solid_sound.proofs.Lists.{contains_cases, contains_first}
-use Rattle.solid_sound.proofs.RowKeeps.{IsWell}
-use Rattle.solid_sound.proofs.Turned.{turned-all}
+use Rattle.solid_sound.proofs.lists.Neighbours.{NoneOf}
+use Rattle.solid_sound.proofs.lists.Cycles.{written-itself}
+use Rattle.solid_sound.proofs.edges.Ends.{FinIn}
+use Rattle.solid_sound.proofs.rows.RowKeeps.{IsWell}
+use Rattle.solid_sound.proofs.lists.Turned.{turned-all}
 use Rattle.solid_calls.proofs.LinkedRings.{in-ring_from, ring-links, ring_at-is}
 use Rattle.solid_calls.proofs.Represented.{Represents}
 use Rattle.solid_edits.proofs.EditedMaps.{HasFin, with_loop, relabelled-has_fin, relabelled-named, relabelled-ring, relinked-has_fin, ring-same, same-named}
@@ -33,6 +32,8 @@ use Rattle.solid_edits.specs.Deaths.{Kills, unless_on_any}
 use Rattle.solid_edits.proofs.KilledMaps.{unless-owned, unless-spared}
 use Rattle.solid_edits.proofs.PlacedAnew.{elsewhere-plain, relabels-elsewhere, relinks-elsewhere}
 use Rattle.solid_edits.proofs.PlacedFins.{placed-listed, placed-loop, placed-other}
+use Rattle.list_facts.proofs.Elements.{Contains-first, Contains-cases}
+use Rattle.list_facts.proofs.Each.{ByRecursion-contains, ByRecursion-at}
 use Rattle.euler_kill.proofs.KefReached.{KefReached, fin-lives, first-among, kef_fins, kef_killed, left-fin, loop-lives, second-among}
 use Rattle.entity_store.proofs.FirstValues.{get_other, get_put}
 
@@ -59,7 +60,7 @@ goes-on S well f u U = more U.rest U.fins_are
 -- where a fin stands first in a ring, the one after it stands second
 pub next-second : (m : EntityMap) (f g : Tag) (rest : List Tag) → IsRing m (f ∷ g ∷ rest) → next_at m f ≡ Some g
 next-second m f g rest is =
-    (ring-links m (f ∷ g ∷ rest) f is (contains_first f (g ∷ rest))).0 ∙ ap (λ ts. Some (unwrap_or (first_tag (drop 1 ts)) f)) (written-itself f (g ∷ rest))
+    (ring-links m (f ∷ g ∷ rest) f is (Contains-first f (g ∷ rest))).0 ∙ ap (λ ts. Some (unwrap_or (first_tag (drop 1 ts)) f)) (written-itself f (g ∷ rest))
 
 -- the first of a ring is not among the others
 not_again : (f : Tag) (fins : List Tag) → GoesOn f fins → (t : Tag) → Contains (drop 1 fins) t → t ≡ f → NoRepeats fins → ⊥
@@ -71,7 +72,7 @@ outside : (f : Tag) (fins rest : List Tag) → fins ≡ f ∷ rest → (t : Tag)
 outside f fins rest is t k other out = ⊎_elim {C = ⊥}
     (λ (e : f ≡ t). other (sym e))
     (λ (j : Contains rest t). out (subst (λ ts. Contains (drop 1 ts) t) (sym is) j))
-    (contains_cases f rest t (subst (λ ts. Contains ts t) is k))
+    (Contains-cases f rest t (subst (λ ts. Contains ts t) is k))
 
 module _ (S : Shape) (m : EntityMap) (well : IsWell S) (rep : Represents S m) (x : Tag) (u v : PlacedFin) (U : FinIn S x u) (V : FinIn S u.mate v) (two : u.loop_ ≢ v.loop_)
     (u_ring : IsRing m u.fins) (v_ring : IsRing m v.fins) where
@@ -105,22 +106,22 @@ module _ (S : Shape) (m : EntityMap) (well : IsWell S) (rep : Represents S m) (x
   N_is = ap (λ ts. drop 1 ts ++ drop 1 v.fins) x-goes_on.is
 
   pub loops-apart : (t : Tag) → Contains u.fins t → Contains v.fins t → ⊥
-  loops-apart t k j = two (sym (placed-loop S well x u U v.loop_ v.face V.end.list V.end.lone V.end.loop_is t (placed-listed S well u.mate v V t j) k))
+  loops-apart t k j = two (sym (placed-loop well U.end v.loop_ v.face V.end.list V.end.lone V.end.loop_is t (placed-listed well V.end t j) k))
 
   pub loops-once : NoRepeats (u.fins ++ v.fins)
-  loops-once = NoRepeats-append u.fins v.fins u_ring.once v_ring.once (ByRecursion-contains (λ t. AllByRecursion (λ q. t ≢ q) v.fins) u.fins (λ t k.
+  loops-once = NoRepeats-append u.fins v.fins u_ring.once v_ring.once (ByRecursion-contains (λ t. NoneOf t v.fins) u.fins (λ t k.
       ByRecursion-contains (λ q. t ≢ q) v.fins (λ q j e. loops-apart t k (subst (Contains v.fins) (sym e) j))))
 
   -- the first fin of a ring is not among the others
   not_x : (t : Tag) → Contains N t → t ≢ x
   not_x t k e = ⊎_elim {C = ⊥}
       (λ (l : Contains (drop 1 u.fins) t). not_again x u.fins x-goes_on t l e u_ring.once)
-      (λ (r : Contains (drop 1 v.fins) t). loops-apart x (subst (λ ts. Contains ts x) (sym U.fins_are) (contains_first x U.rest)) (subst (Contains v.fins) e (second-among S well x u v U V two t r)))
+      (λ (r : Contains (drop 1 v.fins) t). loops-apart x (subst (λ ts. Contains ts x) (sym U.fins_are) (Contains-first x U.rest)) (subst (Contains v.fins) e (second-among S well x u v U V two t r)))
       (Contains-append_cases (drop 1 u.fins) (drop 1 v.fins) t k)
 
   not_mate : (t : Tag) → Contains N t → t ≢ u.mate
   not_mate t k e = ⊎_elim {C = ⊥}
-      (λ (l : Contains (drop 1 u.fins) t). loops-apart u.mate (subst (Contains u.fins) e (first-among S well x u v U V two t l)) (subst (λ ts. Contains ts u.mate) (sym V.fins_are) (contains_first u.mate V.rest)))
+      (λ (l : Contains (drop 1 u.fins) t). loops-apart u.mate (subst (Contains u.fins) e (first-among S well x u v U V two t l)) (subst (λ ts. Contains ts u.mate) (sym V.fins_are) (Contains-first u.mate V.rest)))
       (λ (r : Contains (drop 1 v.fins) t). not_again u.mate v.fins mate-goes_on t r e v_ring.once)
       (Contains-append_cases (drop 1 u.fins) (drop 1 v.fins) t k)
 
@@ -128,7 +129,7 @@ module _ (S : Shape) (m : EntityMap) (well : IsWell S) (rep : Represents S m) (x
   left_lives t k = let fin = left-fin S well x u v U V two t k in fin-lives S well x u v U V two t fin.0 fin.1 fin.2 fin.3 (not_x t k) (not_mate t k)
 
   left_other : (t : Tag) → Contains N t → t ≢ v.loop_
-  left_other t k = let fin = left-fin S well x u v U V two t k in placed-other S well u.mate v V t fin.0 fin.1 fin.2 fin.3
+  left_other t k = let fin = left-fin S well x u v U V two t k in placed-other well V.end t fin.0 fin.1 fin.2 fin.3
 
   -- ---- the rings are joined
 

@@ -1,57 +1,50 @@
--- The map that kemr leaves is that of the shape which its row reaches.
-use Rattle.std.proofs.Common.{◌≡◌, ◌≢◌, ℕ, ◌+◌, ⊎_elim, Bool, true, false, not, List, [], ◌∷◌, ◌++◌, drop, length, Option, Some, None, Ok, refl, sym, ap, subst, ◌∙◌, length-append, arith}
-use Rattle.std.specs.Prelude.{Contains, IsOk, IsTrue, option_map}
+-- kemr: the map that is reached, and that it is that of the shape of its row.
+use Rattle.std.proofs.Common.{◌≡◌, ◌≢◌, ℕ, ◌+◌, ⊎_elim, List, [], ◌∷◌, ◌++◌, drop, length, Option, Some, None, refl, sym, ap, subst, ◌∙◌, length-append, arith}
+use Rattle.std.specs.Prelude.{Contains, IsTrue, option_map}
 use Rattle.std.specs.Option.{option_and_then, option_map_or}
 use Rattle.std.specs.List.{AllByRecursion, flat_map}
 use Rattle.std.specs.FinMap.{get}
-use Rattle.std.proofs.lemmas.Bool.{not-false}
 use Rattle.std.proofs.lemmas.List.Elements.{Contains-append_left, Contains-append_right}
-use Rattle.pk_base.specs.Entity.{same_tag}
 use Rattle.pk_base.specs.declared.tag.Tag.{Tag}
 use Rattle.pk_base.specs.declared.entity.Entity.{Entity}
 use Rattle.pk_base.specs.declared.entity.Entity.TheVariants as entity
 use Rattle.pk_base.specs.declared.entity.Class.{Class}
 use Rattle.pk_base.specs.declared.entity.Class.TheVariants as class
-use Rattle.pk_base.specs.declared.refusal.Refusal.TheVariants.{TwoLoops}
 use Rattle.pk_model.specs.Apart.{NoRepeats}
 use Rattle.pk_model.specs.Maps.{EntityMap, with_entity}
-use Rattle.pk_model.specs.Step.{◌>>=◌}
 use Rattle.pk_base.specs.declared.call.Call.TheVariants.{Kemr}
 use Rattle.pk_model.specs.Tags.{owns, tag_at}
-use Rattle.pk_model.proofs.TagLists.{ByRecursion-at, ByRecursion-contains, NoRepeats-between, contains_only}
-use Rattle.entity_store.specs.Store.{IsHosted, StoreView}
+use Rattle.pk_model.proofs.TagLists.{NoRepeats-between}
+use Rattle.entity_store.specs.Store.{IsHosted}
 use Rattle.entity_store.proofs.FirstValues.{get_other, get_put}
 use Rattle.solid_model.specs.Items.{Item, Shape, item_at, class_of_item, ◌with◌}
 use Rattle.solid_model.specs.Items.Item.{Loop, Fin}
 use Rattle.solid_model.specs.Rings.{before, first_tag, from, from_least, ring_or_lone}
 use Rattle.solid_model.specs.Deaths.{◌without◌}
 use Rattle.solid_model.specs.Room.{deaths, if_found, puts_of, puts_of_kemr}
-use Rattle.solid_model.specs.Rows.{Row, makes_one, refuse_where, ◌>>◌}
-use Rattle.solid_model.specs.Places.{PlacedFin, fin_at}
+use Rattle.solid_model.specs.Places.{PlacedFin}
 use Rattle.solid_model.specs.Kemr.{kemr}
 use Rattle.solid_model.specs.Links.{links}
 use Rattle.solid_model.specs.Shapes.{shape_of}
-use Rattle.solid_model.specs.Sound.{IsSound, class_at}
-use Rattle.solid_sound.proofs.Lists.{contains_cases, contains_first, contains_later, same_itself, same_means}
-use Rattle.solid_sound.proofs.Cycles.{least-in}
-use Rattle.solid_sound.proofs.Turned.{turned-back, turned-in}
-use Rattle.solid_sound.proofs.Asked.{free_item}
-use Rattle.solid_sound.proofs.Changed.{NoneOf}
-use Rattle.solid_sound.proofs.EdgeDeaths.{edge_of_class}
-use Rattle.solid_sound.proofs.Edits.{class_apart}
-use Rattle.solid_sound.proofs.Ends.{FinIn, fin-well}
-use Rattle.solid_sound.proofs.FinRings.{lone_for, ring_or_lone-is}
-use Rattle.solid_sound.proofs.KeptKemr.{kemr-keeps}
-use Rattle.solid_sound.proofs.KeptRings.{face_of_class}
-use Rattle.solid_sound.proofs.Lookups.{Items, tags_in}
-use Rattle.solid_sound.proofs.Reading.{fin_in, loop-of_fin}
-use Rattle.solid_sound.proofs.RowKeeps.{IsWell, Keeps, well-shape}
+use Rattle.solid_model.specs.Sound.{class_at}
+use Rattle.solid_sound.proofs.lists.Cycles.{least-in}
+use Rattle.solid_sound.proofs.lists.Turned.{turned-back, turned-in}
+use Rattle.solid_sound.proofs.rows.Asked.{free_item}
+use Rattle.solid_sound.proofs.lists.Neighbours.{NoneOf}
+use Rattle.solid_sound.proofs.edges.EdgeDeaths.{edge_of_class}
+use Rattle.solid_sound.proofs.shapes.Edits.{class_apart}
+use Rattle.solid_sound.proofs.edges.Ends.{FinIn, fin-well}
+use Rattle.solid_sound.proofs.shapes.FinRings.{lone_for, ring_or_lone-is}
+use Rattle.solid_sound.proofs.rows.KeptKemr.{kemr-keeps}
+use Rattle.solid_sound.proofs.rows.KeptRings.{face_of_class}
+use Rattle.solid_sound.proofs.shapes.Lookups.{Items, tags_in}
+use Rattle.solid_sound.proofs.shapes.Reading.{fin_in, loop-of_fin}
+use Rattle.solid_sound.proofs.rows.RowKeeps.{IsWell, Keeps, well-shape}
 use Rattle.solid_calls.specs.Attributes.{attributes_on}
-use Rattle.solid_calls.specs.LinkedRings.{FinFields, IsInRing, IsRing, as_fin, fin_in as fin_fields, loop_named, mate_in, next_at, prev_at, ring_at}
+use Rattle.solid_calls.specs.LinkedRings.{FinFields, IsRing, as_fin, fin_in as fin_fields, loop_named, mate_in, next_at, prev_at, ring_at}
 use Rattle.solid_calls.specs.Pairs.{reached}
 use Rattle.solid_edits.specs.Deaths.{Kills, unless_on_any, with_attributes}
 use Rattle.solid_edits.specs.EditedLoops.{HasParted, fins_behind, fins_between, loop_from}
-use Rattle.solid_places.specs.declared.fins.PlacedFin.{PlacedFin as FoundFin}
 use Rattle.solid_calls.proofs.Deaths.{deaths-of}
 use Rattle.solid_calls.proofs.LinkedRings.{ring-kept, ring-least}
 use Rattle.solid_calls.proofs.Represented.{Represents, Shows, represented, represents-sound}
@@ -60,77 +53,9 @@ use Rattle.solid_edits.proofs.PartedRings.{behind-within, between-within, parts-
 use Rattle.solid_edits.proofs.KilledMaps.{GainsNoAttribute, unless-fin, unless-plain}
 use Rattle.solid_edits.proofs.LoopsAnew.{loop_from-is}
 use Rattle.solid_edits.proofs.PlacedAnew.{IsSameElsewhere, elsewhere-plain, relabels-elsewhere, relabels-links, relabels-named, relinks-elsewhere, relinks-named, unplaced}
-
--- ---- the row
-
--- what the row says once both fins were found
-abbrev pub cut_row : Shape → Tag → PlacedFin → PlacedFin → Row
-cut_row S f u w = makes_one (λ ring. S with
-    (u.loop_, ring_or_lone u.face (drop 1 (from u.mate u.fins)) u.vertex) ∷
-    (ring, ring_or_lone u.face (drop 1 (before u.mate u.fins)) w.vertex) ∷ []
-    without f ∷ u.mate ∷ u.edge ∷ [])
-
-abbrev tested_row : Shape → Tag → PlacedFin → PlacedFin → Bool → Row
-tested_row S f u w b = refuse_where b (TwoLoops u.loop_ w.loop_) >> cut_row S f u w
-
-pub kemr-found : (S : Shape) (f : Tag) (u w : PlacedFin) → fin_at S f ≡ Ok u → fin_at S u.mate ≡ Ok w → kemr S f ≡ tested_row S f u w (not (same_tag u.loop_ w.loop_))
-kemr-found S f u w found other =
-    ap (λ o. o >>= (λ p. fin_at S p.mate >>= (λ q. tested_row S f p q (not (same_tag p.loop_ q.loop_))))) found
-    ∙ ap (λ o. o >>= (λ q. tested_row S f u q (not (same_tag u.loop_ q.loop_)))) other
-
-refused_not : (S : Shape) (f : Tag) (u w : PlacedFin) (b : Bool) → IsOk (tested_row S f u w b) → b ≡ false
-refused_not S f u w true h = absurd (cc)
-refused_not S f u w false h = refl
-
--- where it is not refused, both fins have one loop
-pub kemr-goes : (S : Shape) (f : Tag) (u w : PlacedFin) → fin_at S f ≡ Ok u → fin_at S u.mate ≡ Ok w → IsOk (kemr S f) → u.loop_ ≡ w.loop_
-kemr-goes S f u w found other goes =
-    same_means u.loop_ w.loop_ (not-false (same_tag u.loop_ w.loop_) (refused_not S f u w (not (same_tag u.loop_ w.loop_)) (subst (λ (o : Row). IsOk o) (kemr-found S f u w found other) goes)))
-
-pub kemr-is : (S : Shape) (f : Tag) (u w : PlacedFin) → fin_at S f ≡ Ok u → fin_at S u.mate ≡ Ok w → u.loop_ ≡ w.loop_ → kemr S f ≡ cut_row S f u w
-kemr-is S f u w found other one =
-    kemr-found S f u w found other ∙ ap (λ b. tested_row S f u w (not b)) (ap (same_tag u.loop_) (sym one) ∙ same_itself u.loop_)
-
--- ---- the fins
-
--- the fin f and its mate were found, and have one loop
-pub record IsOnBothSides (m : EntityMap) (f : Tag) (u w : PlacedFin) : Type 0 where
-  pub sound : IsSound m
-  pub found : fin_at (shape_of m) f ≡ Ok u
-  pub other : fin_at (shape_of m) u.mate ≡ Ok w
-  pub one : u.loop_ ≡ w.loop_
-  pub ring : u.fins ≡ ring_at m f
-  pub in_ring : IsInRing m f
-
--- a fin that was found, with the fins of its loop
-abbrev pub placed_with : FoundFin → List Tag → PlacedFin
-placed_with x fins = record {
-  mate = x.mate;
-  edge = x.edge;
-  vertex = x.vertex;
-  loop_ = x.loop_;
-  face = x.face;
-  shell = x.shell;
-  body = x.body;
-  fins = fins;
-}
-
-pub both-found : (s v v' : StoreView) (f : Tag) (x y : FoundFin) → v ≡ s → v' ≡ s → IsSound s.state.map → IsOk (kemr (shape_of s.state.map) f)
-    → fin_at (shape_of v.state.map) f ≡ Ok (placed_with x (ring_at v.state.map f)) → fin_at (shape_of v'.state.map) x.mate ≡ Ok (placed_with y (ring_at v'.state.map x.mate)) → IsInRing v.state.map f
-    → IsOnBothSides s.state.map f (placed_with x (ring_at s.state.map f)) (placed_with y (ring_at s.state.map x.mate))
-both-found s v v' f x y e e' sound goes found other in_ring =
-    let u = placed_with x (ring_at s.state.map f) in
-    let w = placed_with y (ring_at s.state.map x.mate) in
-    let here : fin_at (shape_of s.state.map) f ≡ Ok u = subst (λ (z : StoreView). fin_at (shape_of z.state.map) f ≡ Ok (placed_with x (ring_at z.state.map f))) e found in
-    let there : fin_at (shape_of s.state.map) x.mate ≡ Ok w = subst (λ (z : StoreView). fin_at (shape_of z.state.map) x.mate ≡ Ok (placed_with y (ring_at z.state.map x.mate))) e' other in
-    record {
-      sound = sound;
-      found = here;
-      other = there;
-      one = kemr-goes (shape_of s.state.map) f u w here there goes;
-      ring = refl;
-      in_ring = subst (λ (z : StoreView). IsInRing z.state.map f) e in_ring;
-    }
+use Rattle.list_facts.proofs.Elements.{Contains-first, Contains-later, Contains-cases, Contains-only}
+use Rattle.list_facts.proofs.Each.{ByRecursion-contains, ByRecursion-at}
+use Rattle.euler_kill.proofs.KemrFound.{cut_row, kemr-is, IsOnBothSides}
 
 module _ (m : EntityMap) (f : Tag) (u w : PlacedFin) (at : IsOnBothSides m f u w) where
   abbrev S : Shape
@@ -168,12 +93,12 @@ module _ (m : EntityMap) (f : Tag) (u w : PlacedFin) (at : IsOnBothSides m f u w
   kemr-among =
       let both : Some (Loop w.face W.end.list W.end.lone) ≡ Some (Loop u.face U.end.list U.end.lone) = sym W.end.loop_is ∙ ap (item_at S) (sym at.one) ∙ U.end.loop_is in
       let lists : W.end.list ≡ U.end.list = cc in
-      let here : Contains w.fins u.mate = subst (λ ts. Contains ts u.mate) (sym W.fins_are) (contains_first u.mate W.rest) in
+      let here : Contains w.fins u.mate = subst (λ ts. Contains ts u.mate) (sym W.fins_are) (Contains-first u.mate W.rest) in
       let listed = subst (λ ts. Contains ts u.mate) lists (turned-in w.fins W.end.list (turned-back W.end.list w.fins W.end.turned) u.mate here) in
       subst (λ ts. Contains ts u.mate) at.ring (turned-in U.end.list u.fins U.end.turned u.mate listed)
 
   pub kemr-first : Contains (ring_at m f) f
-  kemr-first = subst (λ ts. Contains ts f) (sym U.fins_are ∙ at.ring) (contains_first f U.rest)
+  kemr-first = subst (λ ts. Contains ts f) (sym U.fins_are ∙ at.ring) (Contains-first f U.rest)
 
   f_class : class_at S f ≡ Some class.Fin
   f_class = ap (option_map class_of_item) U.fin_is
@@ -323,12 +248,12 @@ module _ (m : EntityMap) (f : Tag) (u w : PlacedFin) (at : IsOnBothSides m f u w
       a-lives : (t : Tag) → Contains A t → NoneOf t killed
       a-lives t k = (
         (λ e. ByRecursion-at (λ x. f ≢ x) (A ++ u.mate ∷ B) t once.0 (Contains-append_left A (u.mate ∷ B) t k) (sym e)),
-        ((λ e. NoRepeats-between A (u.mate ∷ B) t once.1 k (subst (Contains (u.mate ∷ B)) (sym e) (contains_first u.mate B))), (fin_edge t (ring_class t (between-within m f u.mate t k)), tt)),
+        ((λ e. NoRepeats-between A (u.mate ∷ B) t once.1 k (subst (Contains (u.mate ∷ B)) (sym e) (Contains-first u.mate B))), (fin_edge t (ring_class t (between-within m f u.mate t k)), tt)),
       )
 
       b-lives : (t : Tag) → Contains B t → NoneOf t killed
       b-lives t k = (
-        (λ e. ByRecursion-at (λ x. f ≢ x) (A ++ u.mate ∷ B) t once.0 (Contains-append_right A (u.mate ∷ B) t (contains_later u.mate B t k)) (sym e)),
+        (λ e. ByRecursion-at (λ x. f ≢ x) (A ++ u.mate ∷ B) t once.0 (Contains-append_right A (u.mate ∷ B) t (Contains-later u.mate B t k)) (sym e)),
         ((λ e. ByRecursion-at (λ x. u.mate ≢ x) B t (behind_once A once.1).0 k (sym e)), (fin_edge t (ring_class t (behind-within m f u.mate t k)), tt)),
       )
         where
@@ -337,7 +262,7 @@ module _ (m : EntityMap) (f : Tag) (u w : PlacedFin) (at : IsOnBothSides m f u w
           behind_once (x ∷ ts) h = behind_once ts h.1
 
       not_both : (t : Tag) → Contains A t → Contains B t → ⊥
-      not_both t a b = NoRepeats-between A (u.mate ∷ B) t once.1 a (contains_later u.mate B t b)
+      not_both t a b = NoRepeats-between A (u.mate ∷ B) t once.1 a (Contains-later u.mate B t b)
 
       -- such a fin is as it was once the ring was parted
       fields : (t : Tag) → Contains (ring_at m f) t → NoneOf t killed → fin_fields r t ≡ fin_fields m2 t
@@ -385,8 +310,8 @@ module _ (m : EntityMap) (f : Tag) (u w : PlacedFin) (at : IsOnBothSides m f u w
       shown : (t : Tag) (x : Item) → Contains xs (t, x) → Shows R r t x
       shown t x k = ⊎_elim
           (λ (e : (u.loop_, new_l) ≡ (t, x)). subst (λ (y : Tag × Item). Shows R r y.0 y.1) e loop_shown)
-          (λ (c : Contains ((j, new_j) ∷ []) (t, x)). subst (λ (y : Tag × Item). Shows R r y.0 y.1) (contains_only (j, new_j) (t, x) c) new_shown)
-          (contains_cases (u.loop_, new_l) ((j, new_j) ∷ []) (t, x) k)
+          (λ (c : Contains ((j, new_j) ∷ []) (t, x)). subst (λ (y : Tag × Item). Shows R r y.0 y.1) (Contains-only (j, new_j) (t, x) c) new_shown)
+          (Contains-cases (u.loop_, new_l) ((j, new_j) ∷ []) (t, x) k)
 
       -- ---- what stays
 

@@ -1,4 +1,4 @@
--- The map that kev leaves represents the shape that its row reaches.
+-- kev: the map that is reached, and that it is that of the shape of its row.
 use Rattle.std.proofs.Common.{◌≡◌, ◌≢◌, ⊎_elim, true, false, not, List, [], ◌∷◌, Option, Some, None, refl, sym, ap, subst, ◌∙◌}
 use Rattle.std.specs.Prelude.{ℤ, Contains, option_map}
 use Rattle.std.specs.FinMap.{get}
@@ -9,44 +9,32 @@ use Rattle.pk_base.specs.declared.entity.Class.{Class}
 use Rattle.pk_base.specs.declared.entity.Class.TheVariants as class
 use Rattle.pk_base.specs.declared.entity.Entity.{Entity}
 use Rattle.pk_base.specs.declared.entity.Entity.TheVariants as entity
-use Rattle.pk_model.specs.Apart.{NoRepeats}
 use Rattle.pk_model.specs.Maps.{EntityMap, with_entity}
-use Rattle.pk_model.proofs.TagLists.{ByRecursion-at, ByRecursion-contains, contains_only}
 use Rattle.entity_store.proofs.FirstValues.{get_put, get_other}
 use Rattle.solid_model.specs.Items.{Item, Shape, item_at, class_of_item, ◌with◌}
-use Rattle.solid_model.specs.Items.Item.{Body, Shell, Face, Loop, Fin, Edge, Vertex, Attr}
+use Rattle.solid_model.specs.Items.Item.{Loop, Fin, Attr}
 use Rattle.solid_model.specs.Rings.{first_tag, from_least, is_among}
 use Rattle.solid_model.specs.Owners.{fins_of}
 use Rattle.solid_model.specs.Deaths.{dies_with, is_attribute_of, ◌without◌}
 use Rattle.solid_model.specs.Sound.{class_at}
-use Rattle.solid_sound.proofs.Lists.{contains_first, contains_later, in-is_among, neither_from, not_in_nil}
-use Rattle.solid_sound.proofs.Cycles.{least-in}
-use Rattle.solid_sound.proofs.Reading.{fin_in}
-use Rattle.solid_sound.proofs.Lookups.{Items, filter-kept, tags_in, with-other}
-use Rattle.solid_sound.proofs.Edits.{Edits, class_apart, edits}
-use Rattle.solid_sound.proofs.EdgeDeaths.{mates-apart}
-use Rattle.solid_sound.proofs.FinRings.{RingOf, in-ring, lone_for, one_loop, ring_fin}
-use Rattle.solid_sound.proofs.RowKeeps.{IsWell}
+use Rattle.solid_sound.proofs.lists.Neighbours.{in-is_among, neither_from, NoneOf}
+use Rattle.solid_sound.proofs.lists.Cycles.{least-in}
+use Rattle.solid_sound.proofs.shapes.Reading.{fin_in}
+use Rattle.solid_sound.proofs.shapes.Lookups.{Items, filter-kept, tags_in, with-other}
+use Rattle.solid_sound.proofs.shapes.Edits.{Edits, class_apart, edits}
+use Rattle.solid_sound.proofs.shapes.FinRings.{RingOf, in-ring, lone_for, one_loop, ring_fin}
+use Rattle.solid_sound.proofs.rows.RowKeeps.{IsWell}
 use Rattle.solid_calls.specs.LinkedRings.{Relinks, loop_named, unlinked}
 use Rattle.solid_calls.proofs.LinkedRings.{ring-kept, ring-least}
 use Rattle.solid_calls.proofs.Represented.{Represents, Shows}
-use Rattle.solid_edits.proofs.RelinkedFins.{attr-fields, links-same, loop-same, loop_named-fields, none-fields, shows-linked}
+use Rattle.solid_edits.proofs.RelinkedFins.{attr-fields, loop_named-fields, none-fields, shows-linked}
 use Rattle.solid_edits.specs.Deaths.{Kills}
 use Rattle.solid_edits.proofs.KilledMaps.{LivesOn, attribute-of, kills-dead, kills-none, kills-owned, kills-stays, shown-attribute}
-use Rattle.solid_sound.proofs.Changed.{NoneOf}
-
--- ---- what dies
-
--- the two fins of an edge, the edge, and a vertex, are different
-pub dying-once : (S : Shape) → IsWell S → (n m e u v : Tag) → item_at S n ≡ Some (Fin m e u) → item_at S m ≡ Some (Fin n e v) → NoRepeats (n ∷ m ∷ e ∷ v ∷ [])
-dying-once S well n m e u v n_is m_is =
-    let n_class : class_at S n ≡ Some class.Fin = ap (option_map class_of_item) n_is in
-    let m_class : class_at S m ≡ Some class.Fin = ap (option_map class_of_item) m_is in
-    let e_class : class_at S e ≡ Some class.Edge = (well.sound.names.kinds n _ n_is).1.0 in
-    let v_class : class_at S v ≡ Some class.Vertex = (well.sound.names.kinds m _ m_is).2.0 in (
-      ((λ k. mates-apart S well n m e u v n_is m_is (sym k)), (class_apart S n e _ _ n_class e_class (λ k. cc), (class_apart S n v _ _ n_class v_class (λ k. cc), tt))),
-      ((class_apart S m e _ _ m_class e_class (λ k. cc), (class_apart S m v _ _ m_class v_class (λ k. cc), tt)), ((class_apart S e v _ _ e_class v_class (λ k. cc), tt), (tt, tt))),
-    )
+use Rattle.list_facts.proofs.Elements.{Contains-first, Contains-later, Contains-only}
+use Rattle.list_facts.proofs.Each.{ByRecursion-contains, ByRecursion-at}
+use Rattle.solid_edits.proofs.EditedMaps.{same-links, same-named}
+use Rattle.solid_sound.proofs.shapes.Bodies.{loop_by_item}
+use Rattle.euler_kill.proofs.KevFound.{dying-once}
 
 -- ---- the maps, one after another
 
@@ -118,24 +106,18 @@ module _ (S : Shape) (well : IsWell S) (n m e u v l face : Tag) (list A : List T
   fin_class t k = ring_fin S well n l face list (m ∷ A) r t (listed t k)
 
   left_in_ring : (t : Tag) → Contains A t → Contains ring t
-  left_in_ring t k = contains_later n (m ∷ A) t (contains_later m A t k)
+  left_in_ring t k = Contains-later n (m ∷ A) t (Contains-later m A t k)
 
   left_lives : (t : Tag) → Contains A t → NoneOf t killed
-  left_lives t k = fin_lives t (fin_class t (left_in_ring t k)) (λ j. ByRecursion-at (λ x. n ≢ x) (m ∷ A) t r.once.0 (contains_later m A t k) (sym j)) (λ j. ByRecursion-at (λ x. m ≢ x) A t r.once.1.0 k (sym j))
+  left_lives t k = fin_lives t (fin_class t (left_in_ring t k)) (λ j. ByRecursion-at (λ x. n ≢ x) (m ∷ A) t r.once.0 (Contains-later m A t k) (sym j)) (λ j. ByRecursion-at (λ x. m ≢ x) A t r.once.1.0 k (sym j))
 
   -- a fin of another loop
   other_fin : (t : Tag) (x : Item) → item_at S t ≡ Some x → t ≢ l → (f : Tag) → Contains (fins_of x) f → (¬ (Contains ring f)) × (class_at S f ≡ Some class.Fin)
-  other_fin t (Loop h fins lone) is other f k = (
-    (λ j. other (one_loop S well n l face list (m ∷ A) r t h fins lone is f k (listed f j))),
-    ap (option_map class_of_item) (fin_in S well.written well.sound t h fins lone is f k).3,
-  )
-  other_fin t (Body shell) is other f k = absurd (not_in_nil f k)
-  other_fin t (Shell body q) is other f k = absurd (not_in_nil f k)
-  other_fin t (Face shell outer) is other f k = absurd (not_in_nil f k)
-  other_fin t (Fin mate edge vertex) is other f k = absurd (not_in_nil f k)
-  other_fin t (Edge body) is other f k = absurd (not_in_nil f k)
-  other_fin t (Vertex body point) is other f k = absurd (not_in_nil f k)
-  other_fin t (Attr owner name value) is other f k = absurd (not_in_nil f k)
+  other_fin t x is other f k =
+      let w = loop_by_item S f t x is k in (
+        (λ j. other (one_loop S well n l face list (m ∷ A) r t w.face w.fins w.vertex w.loop_is f w.among (listed f j))),
+        ap (option_map class_of_item) (fin_in S well.written well.sound t w.face w.fins w.vertex w.loop_is f w.among).3,
+      )
 
   beside : (t : Tag) → t ≢ l → get m2 t ≡ get m1 t
   beside t h = get_other m1 l new_loop t h
@@ -179,10 +161,10 @@ module _ (S : Shape) (well : IsWell S) (n m e u v l face : Tag) (list A : List T
     shows_loop : Shows R m3 l new
     shows_loop = (
       at_loop,
-      ring-least m3 A (ring-kept m1 m3 A relinks.rings.1.0 (λ t k. links-same m1 m3 t (left_stays t k))),
+      ring-least m3 A (ring-kept m1 m3 A relinks.rings.1.0 (λ t k. same-links m1 m3 t (left_stays t k))),
       ByRecursion-contains (λ f. loop_named m3 f ≡ Some l) (from_least A) (λ f k.
           let j = least-in f A k in
-          loop-same m1 m3 f (left_stays f j) ∙ loop_named-fields m0 m1 f (relinks.fields f) ∙ loop_was f j),
+          same-named m1 m3 f (left_stays f j) ∙ loop_named-fields m0 m1 f (relinks.fields f) ∙ loop_was f j),
     )
 
     -- what is live in both
@@ -199,7 +181,7 @@ module _ (S : Shape) (well : IsWell S) (n m e u v l face : Tag) (list A : List T
         let same = stays t x was is other in
         shows-linked S R m0 m3 ring fin_class t x was (rep.items t x was) (ap (option_map unlinked) same ∙ relinks.fields t) (λ out. same ∙ outside t out) (λ f k.
         let o = other_fin t x was other f k in
-        fin_stays f o.1 (fin_lives f o.1 (λ j. o.0 (subst (Contains ring) (sym j) (contains_first n (m ∷ A)))) (λ j. o.0 (subst (Contains ring) (sym j) (contains_later n (m ∷ A) m (contains_first m A))))) ∙ outside f o.0)
+        fin_stays f o.1 (fin_lives f o.1 (λ j. o.0 (subst (Contains ring) (sym j) (Contains-first n (m ∷ A)))) (λ j. o.0 (subst (Contains ring) (sym j) (Contains-later n (m ∷ A) m (Contains-first m A))))) ∙ outside f o.0)
         (λ f mate edge vertex f_is edge_is.
         let c = ap (option_map class_of_item) f_is in
         let alive = kev_edits.alive t x is in
@@ -240,13 +222,13 @@ module _ (S : Shape) (well : IsWell S) (n m e u v l face : Tag) (list A : List T
     nothing t is (Some x) was = dead t x was other is
       where
         other : t ≢ l
-        other h = let both : None ≡ Some new = sym is ∙ ap (item_at R) h ∙ kev_edits.news l new (contains_first (l, new) []) in cc
+        other h = let both : None ≡ Some new = sym is ∙ ap (item_at R) h ∙ kev_edits.news l new (Contains-first (l, new) []) in cc
 
     pub kev-represents : Represents R m3
     kev-represents = record {
       items = λ t x is. ⊎_elim {C = Shows R m3 t x}
           (λ (k : Contains xs (t, x)).
-          let same : (l, new) ≡ (t, x) = contains_only (l, new) (t, x) k in
+          let same : (l, new) ≡ (t, x) = Contains-only (l, new) (t, x) k in
           subst (λ (q : Tag × Item). Shows R m3 q.0 q.1) same shows_loop)
           (λ (h : (item_at S t ≡ Some x) × NoneOf t (tags_in xs)). shows_stays t x h.0 is h.1.0)
           (kev_edits.was t x is);

@@ -12,8 +12,9 @@ use Rattle.pk_base.specs.declared.entity.Entity.TheVariants as entity
 use Rattle.pk_model.specs.Maps.{EntityMap}
 use Rattle.entity_store.specs.Kids.{kid_at, kids_among, kids_of}
 use Rattle.entity_store.proofs.Live.{kid_first}
-use Rattle.entity_store.proofs.NetChanges.{Contains-keys}
-use Rattle.solid_sound.proofs.Lists.{contains_first, contains_later, contains_cases, not_in_nil, same_means}
+use Rattle.pk_model.proofs.Keys.{Contains-keys}
+use Rattle.solid_sound.proofs.lists.Neighbours.{same_means}
+use Rattle.list_facts.proofs.Elements.{not_in_nil, Contains-first, Contains-later, Contains-cases}
 
 -- the entity stands under the tag, and has this owner
 abbrev pub IsKid : EntityMap → Option Tag → Tag → Entity → Type 0
@@ -31,7 +32,7 @@ kid-tested m owner u us t e x true rest is test c =
     let entities : x ≡ e = ap (λ (p : Tag × Entity). p.1) h in
     (ap (get m) (sym tags) ∙ is ∙ ap Some entities, ap (λ y. same_optional (owner_of y) owner) (sym entities) ∙ test))
     (λ (r : Contains (kids_among m owner us) (t, e)). rest r)
-    (contains_cases (u, x) (kids_among m owner us) (t, e) c)
+    (Contains-cases (u, x) (kids_among m owner us) (t, e) c)
 
 kid-first : (m : EntityMap) (owner : Option Tag) (u : Tag) (us : List Tag) (t : Tag) (e : Entity) (o : Option Entity) → AreKids m owner us t e → get m u ≡ o → Contains (cons_option (kid_at owner u o) (kids_among m owner us)) (t, e) → IsKid m owner t e
 kid-first m owner u us t e None rest is c = rest c
@@ -43,15 +44,15 @@ kids-are m owner (u ∷ us) t e k = kid-first m owner u us t e (get m u) (kids-a
 
 kids-more : (m : EntityMap) (owner : Option Tag) (u : Tag) (us : List Tag) (p : Tag × Entity) (o : Option (Tag × Entity)) → Contains (kids_among m owner us) p → Contains (cons_option o (kids_among m owner us)) p
 kids-more m owner u us p None k = k
-kids-more m owner u us p (Some q) k = contains_later q (kids_among m owner us) p k
+kids-more m owner u us p (Some q) k = Contains-later q (kids_among m owner us) p k
 
 are-kids : (m : EntityMap) (owner : Option Tag) (ts : List Tag) (t : Tag) (e : Entity) → Contains ts t → IsKid m owner t e → Contains (kids_among m owner ts) (t, e)
 are-kids m owner [] t e k is = absurd (not_in_nil t k)
 are-kids m owner (u ∷ us) t e k is =
     ⊎_elim {C = Contains (kids_among m owner (u ∷ us)) (t, e)} (λ (h : u ≡ t).
-    subst (λ (ps : List (Tag × Entity)). Contains ps (t, e)) (sym (kid_first m owner u e us (ap (get m) h ∙ is.0) is.1)) (subst (λ v. Contains ((v, e) ∷ kids_among m owner us) (t, e)) (sym h) (contains_first (t, e) (kids_among m owner us))))
+    subst (λ (ps : List (Tag × Entity)). Contains ps (t, e)) (sym (kid_first m owner u e us (ap (get m) h ∙ is.0) is.1)) (subst (λ v. Contains ((v, e) ∷ kids_among m owner us) (t, e)) (sym h) (Contains-first (t, e) (kids_among m owner us))))
     (λ (r : Contains us t). kids-more m owner u us (t, e) (kid_at owner u (get m u)) (are-kids m owner us t e r is))
-    (contains_cases u us t k)
+    (Contains-cases u us t k)
 
 -- each that a walk gives is a kid, and each kid is given
 pub walked-are : (m : EntityMap) (owner : Option Tag) (walk : List (Tag × Entity)) → IsPermutation (kids_of m owner) walk → (t : Tag) (e : Entity) → Contains walk (t, e) → IsKid m owner t e

@@ -1,4 +1,4 @@
--- kvfs: what the row reaches, and the map once the five parts and their attributes were killed.
+-- kvfs: the map that is reached, and that it is that of the shape of its row.
 use Rattle.std.proofs.Common.{◌≡◌, ◌≢◌, ⊎_elim, Bool, false, not, ◌||◌, List, [], Option, Some, None, refl, sym, ap, subst, ◌∙◌}
 use Rattle.std.specs.Prelude.{ℤ, IsOk, Contains}
 use Rattle.std.specs.FinMap.{get}
@@ -7,7 +7,6 @@ use Rattle.pk_base.specs.declared.entity.Entity.TheVariants as entity
 use Rattle.pk_base.specs.declared.entity.Name.{Name}
 use Rattle.pk_base.specs.declared.refusal.Refusal.TheVariants.{NotBare}
 use Rattle.pk_model.specs.Maps.{EntityMap}
-use Rattle.pk_model.proofs.TagLists.{ByRecursion-at, ByRecursion-contains}
 use Rattle.solid_model.specs.Items.{Item, Shape, item_at}
 use Rattle.solid_model.specs.Items.Item.{Body, Shell, Face, Loop, Fin, Edge, Vertex, Attr}
 use Rattle.solid_model.specs.Owners.{body_of, all_in_body}
@@ -19,20 +18,19 @@ use Rattle.solid_model.specs.Kvfs.{kvfs, has_more_than_a_vertex}
 use Rattle.solid_model.specs.Links.{links}
 use Rattle.solid_model.specs.Shapes.{shape_of}
 use Rattle.solid_model.specs.Sound.{IsSound}
-use Rattle.pk_base.specs.declared.entity.Point.{Point}
-use Rattle.solid_sound.proofs.Lists.{is_among-in, not_among, neither_from}
-use Rattle.solid_sound.proofs.Lookups.{filter-kept}
-use Rattle.solid_sound.proofs.Found.{filter-lost, filter-none, same_or_other}
-use Rattle.solid_sound.proofs.RowKeeps.{IsWell, Keeps, not_refused, well-shape}
-use Rattle.solid_sound.proofs.KeptDeaths.{in_body-among, among-in_body, kvfs-keeps}
-use Rattle.entity_store.specs.Store.{StoreView}
+use Rattle.solid_sound.proofs.lists.Neighbours.{is_among-in, not_among, neither_from, NoneOf}
+use Rattle.solid_sound.proofs.shapes.Lookups.{filter-kept}
+use Rattle.solid_sound.proofs.shapes.Found.{filter-lost, filter-none, same_or_other}
+use Rattle.solid_sound.proofs.rows.RowKeeps.{IsWell, Keeps, not_refused, well-shape}
+use Rattle.solid_sound.proofs.rows.KeptDeaths.{in_body-among, among-in_body, kvfs-keeps}
+use Rattle.solid_sound.proofs.shapes.AttributeBodies.{attribute-body}
 use Rattle.solid_edits.specs.BareParts.{AreBareParts, tags_of_parts}
 use Rattle.solid_edits.specs.declared.bare_parts.BareParts.{BareParts}
 use Rattle.solid_edits.proofs.Going.{goes-on, goes-past}
-use Rattle.solid_edits.specs.Deaths.{Kills, with_attributes}
-use Rattle.solid_edits.proofs.KilledMaps.{IsAttributeIn, LivesOn, kills-dead, kills-none, kills-owned, kills-stays, shown-attribute, with_attributes-cases}
-use Rattle.solid_sound.proofs.Changed.{NoneOf}
-use Rattle.euler_kill.proofs.KvfsParts.{IsBare, is-bare, item-found, attribute-body, body-part, shell-part, face-part, loop-part, vertex-part, no-fin, owner-part, part-or_attribute}
+use Rattle.solid_edits.specs.Deaths.{Kills}
+use Rattle.solid_edits.proofs.KilledMaps.{LivesOn, kills-dead, kills-none, kills-owned, kills-stays, shown-attribute}
+use Rattle.list_facts.proofs.Each.{ByRecursion-contains, ByRecursion-at}
+use Rattle.euler_kill.proofs.KvfsFound.{IsBare, is-bare, body-part, shell-part, face-part, loop-part, vertex-part, no-fin, owner-part, part-or_attribute}
 use Rattle.solid_calls.proofs.Represented.{Represents, represented, represents-sound}
 use Rattle.solid_edits.proofs.StaysRepresented.{IsShown, KeepsFins, are-shown, shown-gone, stays-shown}
 
@@ -130,57 +128,3 @@ module _ (m n : EntityMap) (sound : IsSound m) (p : BareParts) (x : KillsBody (s
 
   pub body-killed : n ≡ links R
   body-killed = represented R n reached_well (are-shown R n (λ t. each t (item_at S t) refl))
-
--- what each part has under its tag
-pub record HasParts (m : EntityMap) (p : BareParts) : Type 0 where
-  pub body_is : get m p.body ≡ Some (entity.Body p.shell)
-  pub shell_is : (q : ℤ) × (get m p.shell ≡ Some (entity.Shell p.body q))
-  pub face_is : get m p.face ≡ Some (entity.Face p.shell p.loop_)
-  pub loop_is : get m p.loop_ ≡ Some (entity.Loop p.face None (Some p.vertex))
-  pub vertex_is : (point : Point) × (get m p.vertex ≡ Some (entity.Vertex p.body point))
-
-pub has-parts : (m : EntityMap) → IsSound m → (p : BareParts) → AreBareParts (shape_of m) p → HasParts m p
-has-parts m sound p are =
-    let was = represents-sound m sound in
-    record {
-      body_is = was.items p.body _ are.body_is;
-      shell_is = (are.q, was.items p.shell _ are.shell_is);
-      face_is = was.items p.face _ are.face_is;
-      loop_is = (was.items p.loop_ _ are.loop_is).0;
-      vertex_is = (are.point, was.items p.vertex _ are.vertex_is);
-    }
-
--- ---- what is put is of the body
-
-module _ (m : EntityMap) (sound : IsSound m) (p : BareParts) (are : AreBareParts (shape_of m) p) where
-  part_among : (t : Tag) → Contains (tags_of_parts p) t → Contains (all_in_body (shape_of m) p.body) t
-  part_among t k =
-      let S = shape_of m in
-      let well = well-shape m sound in
-      ByRecursion-at (λ u. Contains (all_in_body S p.body) u) (tags_of_parts p) t (
-        in_body-among S p.body p.body _ are.body_is (body-part S well p are),
-        (
-          in_body-among S p.body p.shell _ are.shell_is (shell-part S well p are),
-          (
-            in_body-among S p.body p.face _ are.face_is (face-part S well p are),
-            (in_body-among S p.body p.loop_ _ are.loop_is (loop-part S well p are), (in_body-among S p.body p.vertex _ are.vertex_is (vertex-part S well p are), tt)),
-          ),
-        ),
-      ) k
-
-  on_among : (o : Tag) → Contains (tags_of_parts p) o → (t : Tag) → IsAttributeIn m o t → Contains (all_in_body (shape_of m) p.body) t
-  on_among o k t (name, value, is) =
-      let S = shape_of m in
-      let well = well-shape m sound in
-      let item = item-found m t (entity.Attr o name value) is in
-      in_body-among S p.body t _ item (attribute-body S well t o name value item ∙ among-in_body S p.body o well.written.ascends (part_among o k))
-
-  -- the parts, and their attributes
-  pub dead-among : (b : Tag) → p.body ≡ b → (t : Tag) → Contains (with_attributes m (tags_of_parts p)) t → Contains (all_in_body (shape_of m) b) t
-  dead-among b same t c =
-      subst (λ u. Contains (all_in_body (shape_of m) u) t) same
-      (with_attributes-cases m (tags_of_parts p) t c (Contains (all_in_body (shape_of m) p.body) t) (part_among t) (λ o k is. on_among o k t is))
-
--- what is found of the parts in a store that is lent
-pub parts-seen : (v s : StoreView) → v ≡ s → (p : BareParts) → AreBareParts (shape_of v.state.map) p → AreBareParts (shape_of s.state.map) p
-parts-seen v s e p h = subst (λ (w : StoreView). AreBareParts (shape_of w.state.map) p) e h

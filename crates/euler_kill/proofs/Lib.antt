@@ -1,21 +1,21 @@
--- In reading order.
-pub mod RingMoveReached
-pub mod KfmrhReached
-pub mod KfmrhRoom
-pub mod KfmrhRun
+-- Operator by operator, in reading order.
 pub mod KidsFound
-pub mod KvfsCounts
-pub mod KvfsParts
+pub mod KvfsFound
 pub mod KvfsReached
-pub mod KvfsRoom
-pub mod KevReached
+pub mod KvfsDone
 pub mod KevFound
-pub mod KevRun
-pub mod KevNeed
-pub mod KefReached
+pub mod KevReached
+pub mod KevDone
+pub mod KefFound
 pub mod KefSteps
-pub mod KefRoom
+pub mod KefReached
 pub mod KefDone
+pub mod KemrFound
+pub mod KemrSteps
 pub mod KemrReached
-pub mod KemrStages
-pub mod KemrRun
+pub mod KemrDone
+pub mod KfmrhFound
+pub mod KfmrhReached
+pub mod KfmrhDone
+pub mod RingMoveFound
+pub mod RingMoveReached

@@ -1,63 +1,25 @@
--- ringmove: what the row reaches, and the map once the ring was given to the other face.
-use Rattle.std.proofs.Common.{◌≡◌, ◌≢◌, ⊎_elim, List, [], Option, Some, Ok, sym, ap, subst, ◌∙◌}
-use Rattle.std.specs.Prelude.{IsOk, not, option_map}
+-- ringmove: the map that is reached, and that it is that of the shape of its row.
+use Rattle.std.proofs.Common.{◌≡◌, ◌≢◌, ⊎_elim, [], Some, sym, ap, subst, ◌∙◌}
+use Rattle.std.specs.Prelude.{option_map}
 use Rattle.std.specs.FinMap.{get, put}
-use Rattle.pk_base.specs.Entity.{same_tag}
 use Rattle.pk_base.specs.declared.tag.Tag.{Tag}
 use Rattle.pk_base.specs.declared.entity.Entity.TheVariants as entity
-use Rattle.pk_base.specs.declared.refusal.Refusal.TheVariants.{IsOuter, NotOneBody, SameFace}
 use Rattle.pk_model.specs.Maps.{EntityMap, with_entity, tag_cmp}
-use Rattle.solid_model.specs.Items.{Item, Shape, item_at}
-use Rattle.solid_model.specs.Items.Item.{Face, Loop}
+use Rattle.solid_model.specs.Items.{Shape, item_at}
+use Rattle.solid_model.specs.Items.Item.{Loop}
 use Rattle.solid_model.specs.Rings.{first_tag}
-use Rattle.solid_model.specs.Rows.{refuse_where, changes}
-use Rattle.solid_model.specs.Rows.Effect.{Changes}
-use Rattle.solid_model.specs.Places.{loop_at, face_at}
 use Rattle.solid_model.specs.Links.{links}
 use Rattle.solid_model.specs.Shapes.{shape_of}
 use Rattle.solid_model.specs.Sound.{IsSound}
-use Rattle.solid_model.specs.RingMove.{ringmove}
-use Rattle.solid_sound.proofs.Lookups.{put-same, put-other}
-use Rattle.solid_sound.proofs.Found.{same_or_other}
-use Rattle.solid_sound.proofs.RowKeeps.{IsWell, Keeps, well-shape}
-use Rattle.solid_sound.proofs.KeptRings.{asked_loop, asked_face, in_face-is, apart, ringmove-keeps}
+use Rattle.solid_sound.proofs.shapes.Lookups.{put-same, put-other}
+use Rattle.solid_sound.proofs.shapes.Found.{same_or_other}
+use Rattle.solid_sound.proofs.rows.RowKeeps.{IsWell, Keeps, well-shape}
+use Rattle.solid_sound.proofs.rows.KeptRings.{apart, ringmove-keeps}
 use Rattle.solid_edits.specs.Faces.{of_face}
-use Rattle.solid_edits.proofs.Going.{goes-on, goes-past}
 use Rattle.solid_calls.proofs.Represented.{Represents, represented, represents-sound}
 use Rattle.solid_edits.proofs.StaysRepresented.{IsShown, KeepsFins, are-shown, shown-by, stays-shown, loop-given}
 use Rattle.entity_store.proofs.FirstValues.{get_other, get_put}
-
--- the ring and the face that a call that goes was asked for, and what the row reaches
-pub record MovesRing (S : Shape) (l to : Tag) : Type 0 where
-  pub face : Tag
-  pub fins : List Tag
-  pub vertex : Option Tag
-  pub ring_is : item_at S l ≡ Some (Loop face fins vertex)
-  pub shell : Tag
-  pub outer : Tag
-  pub face_is : item_at S to ≡ Some (Face shell outer)
-  pub row_is : ringmove S l to ≡ Ok (Changes (put tag_cmp l (Loop to fins vertex) S))
-
-pub moves : (S : Shape) (l to : Tag) → IsOk (ringmove S l to) → MovesRing S l to
-moves S l to h =
-    let a = goes-on (loop_at S l) _ h in
-    let b = goes-on (face_at S to) _ a.goes in
-    let c = goes-past (refuse_where (same_tag l a.found.outer) (IsOuter l)) _ b.goes in
-    let d = goes-past (refuse_where (not (same_tag a.found.body b.found.body)) (NotOneBody a.found.body b.found.body)) _ c.goes in
-    let e = goes-past (refuse_where (same_tag a.found.face to) (SameFace to)) _ d.goes in
-    let ring = asked_loop S l (item_at S l) a.found a.is in
-    let face = asked_face S to (item_at S to) b.found b.is in
-    record {
-      face = ring.0;
-      fins = ring.1;
-      vertex = ring.2;
-      ring_is = ring.3;
-      shell = face.0;
-      outer = face.1;
-      face_is = face.2;
-      row_is = a.same ∙ b.same ∙ c.same ∙ d.same ∙ e.same
-          ∙ ap (λ (x : Item). changes (put tag_cmp l x S)) (in_face-is S l ring.0 to ring.1 ring.2 ring.3);
-    }
+use Rattle.euler_kill.proofs.RingMoveFound.{MovesRing}
 
 module _ (m : EntityMap) (sound : IsSound m) (l to : Tag) (x : MovesRing (shape_of m) l to) where
   abbrev S : Shape

@@ -17,7 +17,7 @@ pub fn kef_need<L: Ledger>(store: &Store, fin: Tag, steps: &mut Steps<L>) -> Res
     ensures { NeedsAsRow store.now.state.map (Kef fin) result }
 {
     // The blocks bound how many fins there are.
-    store.blocks();
+    let _blocks = store.blocks();
     let u = fin_at(store, fin, steps)?;
     let v = fin_at(store, u.mate, steps)?;
     if u.loop_ == v.loop_ {
@@ -60,7 +60,7 @@ pub fn kef_do<L: Ledger>(rec: &mut Recorder<'_>, fin: Tag, steps: &mut Steps<L>)
 {
     let store = rec.view();
     // Each live entity stands in an owned block.
-    store.blocks();
+    let _blocks = store.blocks();
     let Ok(u) = fin_at(store, fin, steps) else {
         unreachable!()
     };

@@ -24,7 +24,7 @@ pub fn kemr_need<L: Ledger>(store: &Store, fin: Tag, steps: &mut Steps<L>) -> Re
     ensures { NeedsAsRow store.now.state.map (Kemr fin) result }
 {
     // There are few enough entities to count them.
-    store.blocks();
+    let _blocks = store.blocks();
     let u = fin_at(store, fin, steps)?;
     let w = fin_at(store, u.mate, steps)?;
     if u.loop_ != w.loop_ {
@@ -73,7 +73,7 @@ pub fn kemr_do<L: Ledger>(
     ensures same_store { rec.new.store.ghost_name ≡ rec.old.store.ghost_name }
 {
     // Each live entity stands in an owned block.
-    rec.view().blocks();
+    let _blocks = rec.view().blocks();
     let Ok(u) = fin_at(rec.view(), fin, steps) else {
         unreachable!()
     };

@@ -26,7 +26,7 @@ pub fn kev_need<L: Ledger>(store: &Store, fin: Tag, steps: &mut Steps<L>) -> Res
     ensures { NeedsAsRow store.now.state.map (Kev fin) result }
 {
     // No store has so many entities that the sum below could wrap.
-    store.blocks();
+    let _blocks = store.blocks();
     let placed = fin_at(store, fin, steps)?;
     let mate = fin_at(store, placed.mate, steps)?;
     if ring_next(store, fin, steps) != placed.mate {
@@ -65,7 +65,7 @@ pub fn kev_do<L: Ledger>(rec: &mut Recorder<'_>, fin: Tag, steps: &mut Steps<L>)
     ensures same_store { rec.new.store.ghost_name ≡ rec.old.store.ghost_name }
 {
     // Each live entity and its owner stand in owned blocks.
-    rec.view().blocks();
+    let _blocks = rec.view().blocks();
     let Ok(placed) = fin_at(rec.view(), fin, steps) else {
         unreachable!()
     };

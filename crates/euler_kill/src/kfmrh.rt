@@ -33,7 +33,7 @@ pub fn kfmrh_need<L: Ledger>(
         return Err(Refusal::HasRings(kill));
     }
     // Its clauses say that there are few blocks, and so few attributes.
-    store.blocks();
+    let _blocks = store.blocks();
     let attributes = count_attributes(store, kill, steps);
     Ok(Need {
         tags: 0,
@@ -66,7 +66,7 @@ pub fn kfmrh_do<L: Ledger>(rec: &mut Recorder<'_>, keep: Tag, kill: Tag, steps: 
     ensures same_store { rec.new.store.ghost_name ≡ rec.old.store.ghost_name }
 {
     // Its clauses say that the blocks of what is live are owned.
-    rec.view().blocks();
+    let _blocks = rec.view().blocks();
     let Ok(killed) = face_at(rec.view(), kill, steps) else {
         unreachable!()
     };

@@ -55,7 +55,7 @@ pub fn kvfs_do<L: Ledger>(rec: &mut Recorder<'_>, body: Tag, steps: &mut Steps<L
     ensures same_store { rec.new.store.ghost_name ≡ rec.old.store.ghost_name }
 {
     // Its clauses say that the blocks of what is live are owned.
-    rec.view().blocks();
+    let _blocks = rec.view().blocks();
     let parts = parts_of(rec.view(), body, steps);
     kill_all(rec, tags_of(&parts).as_slice(), steps);
 }

@@ -60,6 +60,6 @@ pub fn ringmove_do<L: Ledger>(rec: &mut Recorder<'_>, ring: Tag, to: Tag, steps:
     ensures same_store { rec.new.store.ghost_name ≡ rec.old.store.ghost_name }
 {
     // Its clauses say that the blocks of the ring and of the face are owned.
-    rec.view().blocks();
+    let _blocks = rec.view().blocks();
     give_loop(rec, ring, to, steps);
 }

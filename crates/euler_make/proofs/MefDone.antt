@@ -1,4 +1,4 @@
--- What each step of mef asks for, and that the last one does what the row says.
+-- mef: what each step asks for, and that the last one does what the row says.
 use Rattle.std.proofs.Common.{◌≡◌, ⊎_elim, List, [], ◌∷◌, ◌++◌, refl, sym, ap, subst, ◌∙◌, arith}
 use Rattle.std.specs.Prelude.{Contains, IsTrue}
 use Rattle.std.proofs.lemmas.List.Elements.{Contains-append_left, Contains-append_right, Contains-append_cases}
@@ -7,11 +7,11 @@ use Rattle.pk_base.specs.declared.call.Call.TheVariants.{Mef}
 use Rattle.pk_model.specs.Apart.{NoRepeats}
 use Rattle.pk_model.specs.Maps.{EntityMap}
 use Rattle.pk_model.specs.Tags.{owns}
-use Rattle.pk_model.proofs.TagLists.{contains_only}
+use Rattle.list_facts.proofs.Elements.{Contains-only}
 use Rattle.entity_store.specs.Recording.{HasRoomFor}
 use Rattle.entity_store.specs.Store.{Stored, StoreView}
 use Rattle.solid_model.specs.Sound.{IsSound}
-use Rattle.solid_sound.proofs.RowKeeps.{sound-links}
+use Rattle.solid_sound.proofs.rows.RowKeeps.{sound-links}
 use Rattle.solid_model.specs.Items.{Shape, ◌with◌}
 use Rattle.solid_model.specs.Links.{links}
 use Rattle.solid_model.specs.Places.{PlacedFin}
@@ -19,15 +19,16 @@ use Rattle.solid_model.specs.Rings.{before, from}
 use Rattle.solid_model.specs.Room.{puts_of}
 use Rattle.solid_model.specs.Shapes.{shape_of}
 use Rattle.solid_calls.specs.LinkedRings.{IsInRing, IsRing, Relabels, Relinks, ends_of, ring_at}
-use Rattle.solid_calls.specs.Pairs.{HasDone, reached, row_on}
+use Rattle.solid_calls.specs.Pairs.{HasDone}
 use Rattle.solid_calls.specs.Room.{HasRoomForThese, PutsAmong}
-use Rattle.solid_sound.proofs.Lists.{before-from}
+use Rattle.solid_sound.proofs.lists.Neighbours.{before-from}
 use Rattle.solid_calls.proofs.Represented.{Represents, represented}
-use Rattle.solid_calls.proofs.Room.{puts-then, puts-wider, records-of, room-after, room-for_one, room-part}
-use Rattle.solid_edits.proofs.Puts.{both-ends_among, each-among, owned-still, stored-is}
+use Rattle.solid_calls.proofs.Room.{records-of, room-part}
+use Rattle.solid_edits.proofs.Puts.{both-ends_among, each-among}
+use Rattle.solid_edits.proofs.Stages.{IsStage, only-put, stage-none, stage-owns, stage-room, stage-room_one, stage-then}
 use Rattle.solid_edits.proofs.EditedMaps.{with_loop}
-use Rattle.euler_make.proofs.MefReached.{mef_items, mef-represented}
-use Rattle.euler_make.proofs.MefRoom.{MefGoes, mef_puts}
+use Rattle.euler_make.proofs.MefFound.{mef_items, MefGoes, mef_puts}
+use Rattle.euler_make.proofs.MefReached.{mef-represented}
 use Rattle.euler_make.proofs.MefSteps.{mef_made, first_not, looped-in_ring, made-in_ring, made-ring_at, made-x_ring, made-y_ring, mef-reached, named-in_ring, parted-in_ring, parted-ring_at, parts-apart}
 
 -- what the ring is asked for, to be parted
@@ -82,17 +83,14 @@ module _ (s : StoreView) (f g : Tag) (u : PlacedFin) (v : Tag) (tags : List Tag)
     map1 : m1 ≡ made
     map1 = ap (λ (z : Stored). z.map) state1
 
-    blocks1 : s1.state.blocks ≡ s.state.blocks
-    blocks1 = ap (λ (z : Stored). z.blocks) state1
+    one : IsStage ts s s1
+    one = stage-then ts four s s s1 (stage-none ts s) four_among (only-put s.state s1.state made state1) puts1
 
     pub asks-parted : AsksParted m1 f g x y
     asks-parted = subst (λ n. AsksParted n f g x y) (sym map1) asks_made
 
     ring1 : ring_at m1 f ≡ u.fins
     ring1 = ap (λ n. ring_at n f) map1 ∙ made-ring_at S s.state.map G.well G.rep f g v face l edge x y u G.fin G.once G.free G.other G.g_in G.ring
-
-    room1 : HasRoomForThese s1.recording ts
-    room1 = room-after ts four s s1 G.room puts1 four_among
 
     abbrev linked : List Tag
     linked = x ∷ y ∷ ends_of (before g (ring_at m1 f)) ++ ends_of (from g (ring_at m1 f))
@@ -105,7 +103,7 @@ module _ (s : StoreView) (f g : Tag) (u : PlacedFin) (v : Tag) (tags : List Tag)
         (Contains-append_cases (x ∷ y ∷ []) (ends_of (before g (ring_at m1 f)) ++ ends_of (from g (ring_at m1 f))) t k)
 
     pub parted-room : HasRoomForThese s1.recording linked
-    parted-room = room-part s1.recording ts linked room1 linked_among
+    parted-room = stage-room ts linked s s1 G.room one linked_among
 
     -- ---- once the ring is parted
 
@@ -117,8 +115,8 @@ module _ (s : StoreView) (f g : Tag) (u : PlacedFin) (v : Tag) (tags : List Tag)
       parted : Relinks made (ring_at made f ∷ (x ∷ []) ∷ (y ∷ []) ∷ []) m2 ((before g (ring_at made f) ++ x ∷ []) ∷ (from g (ring_at made f) ++ y ∷ []) ∷ [])
       parted = subst (λ n. Relinks n (ring_at n f ∷ (x ∷ []) ∷ (y ∷ []) ∷ []) m2 ((before g (ring_at n f) ++ x ∷ []) ∷ (from g (ring_at n f) ++ y ∷ []) ∷ [])) map1 links2
 
-      blocks2 : s2.state.blocks ≡ s.state.blocks
-      blocks2 = ap (λ (z : Stored). z.blocks) state2 ∙ blocks1
+      two : IsStage ts s s2
+      two = stage-then ts linked s s1 s2 one linked_among state2 puts2
 
       ring2 : ring_at m2 f ≡ before g u.fins ++ x ∷ []
       ring2 = parted-ring_at S s.state.map G.well G.rep f g v face l edge x y u G.fin G.once G.free G.other G.g_in G.ring m2 parted
@@ -127,7 +125,7 @@ module _ (s : StoreView) (f g : Tag) (u : PlacedFin) (v : Tag) (tags : List Tag)
       label-ring = parted-in_ring S s.state.map G.well G.rep f g v face l edge x y u G.fin G.once G.free G.other G.g_in G.ring m2 parted
 
       pub label-owned : IsTrue (owns s2.state.blocks l)
-      label-owned = owned-still s2.state s.state l blocks2 G.owned.1.0
+      label-owned = stage-owns ts s s2 l two G.owned.1.0
 
       pub label-other : ¬ (Contains (ring_at m2 f) l)
       label-other k = (first_not S s.state.map G.well G.rep f g v face l edge x y u G.fin G.once G.free G.other G.g_in G.ring l (subst (λ z. Contains z l) ring2 k)).0 refl
@@ -135,14 +133,11 @@ module _ (s : StoreView) (f g : Tag) (u : PlacedFin) (v : Tag) (tags : List Tag)
       named_among : (t : Tag) → Contains (ring_at m2 f) t → Contains ts t
       named_among t k = ⊎_elim {C = Contains ts t}
           (λ (a : Contains (before g u.fins) t). fins_among t (subst (λ z. Contains z t) (before-from g u.fins) (Contains-append_left (before g u.fins) (from g u.fins) t a)))
-          (λ (a : Contains (x ∷ []) t). subst (Contains ts) (contains_only x t a) (3, omega arith, refl))
+          (λ (a : Contains (x ∷ []) t). subst (Contains ts) (Contains-only x t a) (3, omega arith, refl))
           (Contains-append_cases (before g u.fins) (x ∷ []) t (subst (λ z. Contains z t) ring2 k))
 
-      room2 : HasRoomForThese s2.recording ts
-      room2 = room-after ts linked s1 s2 room1 puts2 linked_among
-
       pub label-room : HasRoomForThese s2.recording (ring_at m2 f)
-      label-room = room-part s2.recording ts (ring_at m2 f) room2 named_among
+      label-room = stage-room ts (ring_at m2 f) s s2 G.room two named_among
 
       -- ---- once the first part names the new loop
 
@@ -150,23 +145,20 @@ module _ (s : StoreView) (f g : Tag) (u : PlacedFin) (v : Tag) (tags : List Tag)
         abbrev m3 : EntityMap
         m3 = s3.state.map
 
-        blocks3 : s3.state.blocks ≡ s.state.blocks
-        blocks3 = ap (λ (z : Stored). z.blocks) state3 ∙ blocks2
-
-        room3 : HasRoomForThese s3.recording ts
-        room3 = room-after ts (ring_at m2 f) s2 s3 room2 puts3 named_among
+        three : IsStage ts s s3
+        three = stage-then ts (ring_at m2 f) s s2 s3 two named_among state3 puts3
 
         pub first-ring : IsInRing m3 f
         first-ring = named-in_ring S s.state.map G.well G.rep f g v face l edge x y u G.fin G.once G.free G.other G.g_in G.ring m2 parted m3 labels3
 
         pub first-owned : IsTrue (owns s3.state.blocks l)
-        first-owned = owned-still s3.state s.state l blocks3 G.owned.1.0
+        first-owned = stage-owns ts s s3 l three G.owned.1.0
 
         pub first-face_owned : IsTrue (owns s3.state.blocks face)
-        first-face_owned = owned-still s3.state s.state face blocks3 G.owned.0
+        first-face_owned = stage-owns ts s s3 face three G.owned.0
 
         pub first-room : HasRoomFor s3.recording l
-        first-room = room-for_one s3.recording ts l room3 (1, omega arith, refl)
+        first-room = stage-room_one ts s s3 l G.room three (1, omega arith, refl)
 
         -- ---- once the new loop is put
 
@@ -177,26 +169,23 @@ module _ (s : StoreView) (f g : Tag) (u : PlacedFin) (v : Tag) (tags : List Tag)
           map4 : m4 ≡ with_loop m3 l face f
           map4 = ap (λ (z : Stored). z.map) state4
 
-          blocks4 : s4.state.blocks ≡ s.state.blocks
-          blocks4 = ap (λ (z : Stored). z.blocks) state4 ∙ blocks3
-
           l_among : (t : Tag) → Contains (l ∷ []) t → Contains ts t
           l_among t k = each-among (l ∷ []) ts ((1, omega arith, refl), tt) t k
 
-          room4 : HasRoomForThese s4.recording ts
-          room4 = room-after ts (l ∷ []) s3 s4 room3 puts4 l_among
+          fourth : IsStage ts s s4
+          fourth = stage-then ts (l ∷ []) s s3 s4 three l_among (only-put s3.state s4.state (with_loop m3 l face f) state4) puts4
 
           pub second-ring : IsInRing m4 g
           second-ring = subst (λ n. IsInRing n g) (sym map4) (looped-in_ring S s.state.map G.well G.rep f g v face l edge x y u G.fin G.once G.free G.other G.g_in G.ring m2 parted m3 labels3)
 
           pub second-owned : IsTrue (owns s4.state.blocks u.loop_)
-          second-owned = owned-still s4.state s.state u.loop_ blocks4 G.known.1.1.0
+          second-owned = stage-owns ts s s4 u.loop_ fourth G.known.1.1.0
 
           pub second-face_owned : IsTrue (owns s4.state.blocks u.face)
-          second-face_owned = owned-still s4.state s.state u.face blocks4 G.known.1.1.1.0
+          second-face_owned = stage-owns ts s s4 u.face fourth G.known.1.1.1.0
 
           pub second-room : HasRoomFor s4.recording u.loop_
-          second-room = room-for_one s4.recording ts u.loop_ room4 (5, omega arith, refl)
+          second-room = stage-room_one ts s s4 u.loop_ G.room fourth (5, omega arith, refl)
 
           -- ---- once the old loop is put
 
@@ -207,9 +196,6 @@ module _ (s : StoreView) (f g : Tag) (u : PlacedFin) (v : Tag) (tags : List Tag)
             map5 : s5.state.map ≡ with_loop (with_loop m3 l face f) u.loop_ u.face g
             map5 = ap (λ (z : Stored). z.map) state5 ∙ ap (λ n. with_loop n u.loop_ u.face g) map4
 
-            blocks5 : s5.state.blocks ≡ s.state.blocks
-            blocks5 = ap (λ (z : Stored). z.blocks) state5 ∙ blocks4
-
             shows : Represents R (with_loop (with_loop m3 l face f) u.loop_ u.face g)
             shows = mef-represented S s.state.map (with_loop (with_loop m3 l face f) u.loop_ u.face g) G.well G.rep f g v face l edge x y u G.fin G.once G.free G.less
                 (mef-reached S s.state.map G.well G.rep f g v face l edge x y u G.fin G.once G.free G.other G.g_in G.ring m2 parted m3 labels3)
@@ -217,19 +203,12 @@ module _ (s : StoreView) (f g : Tag) (u : PlacedFin) (v : Tag) (tags : List Tag)
             loop_among : (t : Tag) → Contains (u.loop_ ∷ []) t → Contains ts t
             loop_among t k = each-among (u.loop_ ∷ []) ts ((5, omega arith, refl), tt) t k
 
-            puts : PutsAmong ts s s5
-            puts =
-                let one = puts-wider four ts s s1 puts1 four_among in
-                let two = puts-wider linked ts s1 s2 puts2 linked_among in
-                let three = puts-wider (ring_at m2 f) ts s2 s3 puts3 named_among in
-                let four_ = puts-wider (l ∷ []) ts s3 s4 puts4 l_among in
-                let five = puts-wider (u.loop_ ∷ []) ts s4 s5 puts5 loop_among in
-                puts-then ts s s4 s5 (puts-then ts s s3 s4 (puts-then ts s s2 s3 (puts-then ts s s1 s2 one two) three) four_) five
+            fifth : IsStage ts s s5
+            fifth = stage-then ts (u.loop_ ∷ []) s s4 s5 fourth loop_among (only-put s4.state s5.state (with_loop m4 u.loop_ u.face g) state5) puts5
 
             pub mef-done : HasDone s (Mef f g) tags s5
             mef-done = record {
-              state = stored-is s5.state s.state (links (reached S tags (row_on s.state.map (Mef f g)))) blocks5
-                  (map5 ∙ represented R _ G.reached_well shows ∙ ap links (sym G.is));
+              state = fifth.state ∙ ap (λ (n : EntityMap). record s.state { map = n }) (map5 ∙ represented R _ G.reached_well shows ∙ ap links (sym G.is));
               sound = subst IsSound (sym (map5 ∙ represented R _ G.reached_well shows)) (sound-links R G.reached_well);
-              records = records-of ts (puts_of S (Mef f g)) s s5 puts G.few;
+              records = records-of ts (puts_of S (Mef f g)) s s5 fifth.puts G.few;
             }

@@ -1,5 +1,5 @@
--- The map that is reached by mef, tag by tag, and that it is the one of the shape of mef's row.
-use Rattle.std.proofs.Common.{◌≡◌, ◌≢◌, ◌<◌, ⊎_elim, List, [], ◌∷◌, ◌++◌, Some, None, refl, sym, ap, subst, ◌∙◌, arith}
+-- mef: the map that is reached, and that it is that of the shape of its row.
+use Rattle.std.proofs.Common.{◌≡◌, ◌≢◌, ◌<◌, ⊎_elim, List, [], ◌∷◌, ◌++◌, Some, None, refl, sym, subst, ◌∙◌, arith}
 use Rattle.std.specs.Prelude.{Contains}
 use Rattle.std.specs.List.{AllByRecursion}
 use Rattle.std.specs.FinMap.{get}
@@ -8,32 +8,24 @@ use Rattle.pk_base.specs.declared.tag.Tag.{Tag}
 use Rattle.pk_base.specs.declared.entity.Entity.TheVariants as entity
 use Rattle.pk_model.specs.Apart.{NoRepeats}
 use Rattle.pk_model.specs.Maps.{EntityMap}
-use Rattle.pk_model.proofs.TagLists.{ByRecursion-at, ByRecursion-contains}
 use Rattle.solid_model.specs.Items.{Item, Shape, item_at, ◌with◌}
-use Rattle.solid_model.specs.Items.Item.{Face, Loop, Fin, Edge}
+use Rattle.solid_model.specs.Items.Item.{Loop, Fin}
 use Rattle.solid_model.specs.Rings.{before, first_tag, from, from_least, ring_of}
 use Rattle.solid_model.specs.Owners.{fins_of}
 use Rattle.solid_model.specs.Places.{PlacedFin}
 use Rattle.solid_calls.specs.LinkedRings.{IsRing, loop_named}
-use Rattle.solid_sound.proofs.Cycles.{least-in}
-use Rattle.solid_sound.proofs.Lookups.{Items, tags_in, with-other, with-written, is_written}
-use Rattle.solid_sound.proofs.Ends.{FinIn}
-use Rattle.solid_sound.proofs.Reading.{fin_in}
-use Rattle.solid_sound.proofs.RowKeeps.{IsWell}
+use Rattle.solid_sound.proofs.lists.Cycles.{least-in}
+use Rattle.solid_sound.proofs.shapes.Lookups.{Items, tags_in, with-other, with-written, is_written}
+use Rattle.solid_sound.proofs.edges.Ends.{FinIn}
+use Rattle.solid_sound.proofs.rows.RowKeeps.{IsWell}
 use Rattle.solid_calls.proofs.LinkedRings.{ring-least}
 use Rattle.solid_calls.proofs.Represented.{Represents, Shows, shows-kept}
-use Rattle.solid_edits.proofs.EditedMaps.{HasFin, among_or_not}
-use Rattle.solid_edits.proofs.PlacedFins.{live_apart, loop_with_fins, placed-fin, placed-loop, placed-other}
-
--- what is written by mef, at the fins g and u of one loop, where the new fin x starts at the vertex v
-abbrev pub mef_items : PlacedFin → Tag → Tag → Tag → Tag → Tag → Tag → Tag → Items
-mef_items u g v face l edge x y =
-    (face, Face u.shell l) ∷
-    (l, ring_of face (before g u.fins ++ x ∷ [])) ∷
-    (edge, Edge u.body) ∷
-    (x, Fin y edge v) ∷
-    (y, Fin x edge u.vertex) ∷
-    (u.loop_, ring_of u.face (from g u.fins ++ y ∷ [])) ∷ []
+use Rattle.solid_edits.proofs.EditedMaps.{HasFin}
+use Rattle.solid_edits.proofs.PlacedFins.{placed-fin, placed-other, placed-live, placed-elsewhere}
+use Rattle.list_facts.proofs.Each.{ByRecursion-contains, ByRecursion-at}
+use Rattle.solid_sound.proofs.lists.Neighbours.{NoneOf, among_or_not}
+use Rattle.solid_sound.proofs.shapes.Edits.{live-none_of}
+use Rattle.euler_make.proofs.MefFound.{mef_items}
 
 -- What m became, tag by tag.
 pub record MefReached (m : EntityMap) (u : PlacedFin) (g v face l edge x y : Tag) (n : EntityMap) : Type 0 where
@@ -48,9 +40,9 @@ pub record MefReached (m : EntityMap) (u : PlacedFin) (g v face l edge x y : Tag
   pub y_is : HasFin n y x edge u.vertex
   pub old_is : get n u.loop_ ≡ Some (entity.Loop u.face (first_tag (from_least (from g u.fins ++ y ∷ []))) None)
   pub fins : (t mate e vertex : Tag) → Contains u.fins t → HasFin m t mate e vertex → HasFin n t mate e vertex
-  pub others : (t : Tag) → AllByRecursion (λ q. t ≢ q) (face ∷ l ∷ edge ∷ x ∷ y ∷ u.loop_ ∷ []) → ¬ (Contains u.fins t) → get n t ≡ get m t
+  pub others : (t : Tag) → NoneOf t (face ∷ l ∷ edge ∷ x ∷ y ∷ u.loop_ ∷ []) → ¬ (Contains u.fins t) → get n t ≡ get m t
 
-all_then : (t last : Tag) (ts : List Tag) → AllByRecursion (λ q. t ≢ q) ts → t ≢ last → AllByRecursion (λ q. t ≢ q) (ts ++ last ∷ [])
+all_then : (t last : Tag) (ts : List Tag) → NoneOf t ts → t ≢ last → NoneOf t (ts ++ last ∷ [])
 all_then t last [] h k = (k, tt)
 all_then t last (q ∷ ts) h k = (h.0, all_then t last ts h.1 k)
 
@@ -70,12 +62,12 @@ module _ (S : Shape) (m n : EntityMap) (well : IsWell S) (rep : Represents S m) 
   old_item = Loop u.face U.end.list U.end.lone
 
   -- what is no loop, or another one, is not written
-  unwritten : (t : Tag) (i : Item) → item_at S t ≡ Some i → t ≢ u.loop_ → AllByRecursion (λ q. t ≢ q) (tags_in xs)
-  unwritten t i is other = all_then t u.loop_ new (live_apart S t i new is free) other
+  unwritten : (t : Tag) (i : Item) → item_at S t ≡ Some i → t ≢ u.loop_ → NoneOf t (tags_in xs)
+  unwritten t i is other = all_then t u.loop_ new (live-none_of S new t i free is) other
 
   once_all : NoRepeats (tags_in xs)
   once_all =
-      let last = live_apart S u.loop_ old_item new U.end.loop_is free in (
+      let last = live-none_of S new u.loop_ old_item free U.end.loop_is in (
         (once.0.0, (once.0.1.0, (once.0.1.1.0, (once.0.1.1.1.0, ((λ e. last.0 (sym e)), tt))))),
         (
           (once.1.0.0, (once.1.0.1.0, (once.1.0.1.1.0, ((λ e. last.1.0 (sym e)), tt)))),
@@ -91,7 +83,7 @@ module _ (S : Shape) (m n : EntityMap) (well : IsWell S) (rep : Represents S m) 
 
   -- a fin that was is there still
   fin_stays : (t mate e vertex : Tag) → item_at S t ≡ Some (Fin mate e vertex) → item_at R t ≡ Some (Fin mate e vertex)
-  fin_stays t mate e vertex is = with-other S xs t (unwritten t _ is (placed-other S well f u U t mate e vertex is)) ∙ is
+  fin_stays t mate e vertex is = with-other S xs t (unwritten t _ is (placed-other well U.end t mate e vertex is)) ∙ is
 
   shows_ring : (k h : Tag) (fins : List Tag) → get n k ≡ Some (entity.Loop h (first_tag (from_least fins)) None) → IsRing n fins → ((t : Tag) → Contains fins t → loop_named n t ≡ Some k)
       → Shows R n k (ring_of h fins)
@@ -112,16 +104,13 @@ module _ (S : Shape) (m n : EntityMap) (well : IsWell S) (rep : Represents S m) 
   -- the fins of another loop are not of this one
   other_fins : (t : Tag) (i : Item) → item_at S t ≡ Some i → t ≢ u.loop_ → (q : Tag) → Contains (fins_of i) q → get n q ≡ get m q
   other_fins t i is other q k =
-      let loop = loop_with_fins i q k in
-      let loop_is : item_at S t ≡ Some (Loop loop.0 loop.1 loop.2) = is ∙ ap Some loop.3 in
-      let among : Contains loop.1 q = subst (λ z. Contains (fins_of z) q) loop.3 k in
-      let fin = fin_in S well.written well.sound t loop.0 loop.1 loop.2 loop_is q among in
-      now.others q (unwritten q (Fin fin.0 fin.1 fin.2) fin.3 (placed-other S well f u U q fin.0 fin.1 fin.2 fin.3)) (λ j. other (placed-loop S well f u U t loop.0 loop.1 loop.2 loop_is q among j))
+      let o = placed-elsewhere well U.end t i is other q k in
+      now.others q (unwritten q _ o.1.3 (placed-other well U.end q _ _ _ o.1.3)) o.0
 
-  shows_old : (t : Tag) (i : Item) → item_at S t ≡ Some i → AllByRecursion (λ q. t ≢ q) (tags_in xs) → Shows R n t i
+  shows_old : (t : Tag) (i : Item) → item_at S t ≡ Some i → NoneOf t (tags_in xs) → Shows R n t i
   shows_old t i is apart = ⊎_elim {C = Shows R n t i}
       (λ (k : Contains u.fins t).
-      let fin = placed-fin S well f u U t k in
+      let fin = placed-fin well U.end t k in
       let same : i ≡ Fin fin.0 fin.1 fin.2 = same_Some i _ (sym is ∙ fin.3) in
       subst (Shows R n t) (sym same) (now.fins t fin.0 fin.1 fin.2 k (rep.items t _ fin.3)))
       (λ (k : ¬ (Contains u.fins t)).
@@ -134,12 +123,12 @@ module _ (S : Shape) (m n : EntityMap) (well : IsWell S) (rep : Represents S m) 
         (λ (w : (j : Item) × Contains xs (t, j)).
         let same : w.0 ≡ i = same_Some w.0 i (sym (there t w.0 w.1) ∙ is) in
         subst (Shows R n t) same (ByRecursion-at (λ (p : Tag × Item). Shows R n p.0 p.1) xs (t, w.0) shows_new w.1))
-        (λ (apart : AllByRecursion (λ q. t ≢ q) (tags_in xs)). shows_old t i (sym (with-other S xs t apart) ∙ is) apart)
+        (λ (apart : NoneOf t (tags_in xs)). shows_old t i (sym (with-other S xs t apart) ∙ is) apart)
         (is_written t xs);
     nothing = λ t none. ⊎_elim {C = get n t ≡ None}
         (λ (w : (j : Item) × Contains xs (t, j)). let both : None ≡ Some w.0 = sym none ∙ there t w.0 w.1 in absurd (cc))
-        (λ (apart : AllByRecursion (λ q. t ≢ q) (tags_in xs)).
+        (λ (apart : NoneOf t (tags_in xs)).
         let was : item_at S t ≡ None = sym (with-other S xs t apart) ∙ none in
-        now.others t apart (λ k. let fin = placed-fin S well f u U t k in let both : None ≡ Some (Fin fin.0 fin.1 fin.2) = sym was ∙ fin.3 in absurd (cc)) ∙ rep.nothing t was)
+        now.others t apart (placed-live well U.end t was) ∙ rep.nothing t was)
         (is_written t xs);
   }

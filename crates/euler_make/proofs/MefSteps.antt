@@ -1,7 +1,6 @@
--- The steps by which mef comes from one map to the next, and that the last map is the one reached.
+-- mef: the steps from one map to the next.
 use Rattle.std.proofs.Common.{◌≡◌, ◌≢◌, ⊎_elim, List, [], ◌∷◌, ◌++◌, Option, Some, None, sym, ap, subst, ◌∙◌}
-use Rattle.std.specs.Prelude.{option_map, Contains}
-use Rattle.std.specs.Option.{option_and_then}
+use Rattle.std.specs.Prelude.{Contains}
 use Rattle.std.specs.List.{AllByRecursion}
 use Rattle.std.specs.FinMap.{get}
 use Rattle.std.proofs.lemmas.List.Elements.{Contains-append_left, Contains-append_right, Contains-append_cases}
@@ -10,20 +9,24 @@ use Rattle.pk_base.specs.declared.entity.Entity.{Entity}
 use Rattle.pk_base.specs.declared.entity.Entity.TheVariants as entity
 use Rattle.pk_model.specs.Apart.{NoRepeats}
 use Rattle.pk_model.specs.Maps.{EntityMap, with_entity}
-use Rattle.pk_model.proofs.TagLists.{ByRecursion-contains, NoRepeats-append, NoRepeats-between, contains_only}
+use Rattle.pk_model.proofs.TagLists.{NoRepeats-append, NoRepeats-between}
 use Rattle.solid_model.specs.Items.{Shape, item_at}
 use Rattle.solid_model.specs.Items.Item.{Loop, Fin}
 use Rattle.solid_model.specs.Rings.{before, first_tag, from, from_least}
 use Rattle.solid_model.specs.Places.{PlacedFin}
-use Rattle.solid_calls.specs.LinkedRings.{IsInRing, IsRing, Relabels, Relinks, as_fin, loop_named, ring_at}
-use Rattle.solid_sound.proofs.Lists.{contains_first, before-from}
-use Rattle.solid_sound.proofs.Cycles.{CutAt, cut-at}
-use Rattle.solid_sound.proofs.Ends.{FinIn}
-use Rattle.solid_sound.proofs.RowKeeps.{IsWell}
-use Rattle.solid_calls.proofs.LinkedRings.{in-ring_from, ring_at-is}
+use Rattle.solid_calls.specs.LinkedRings.{IsInRing, IsRing, Relabels, Relinks, loop_named, ring_at}
+use Rattle.solid_sound.proofs.lists.Neighbours.{NoneOf, before-from}
+use Rattle.solid_sound.proofs.lists.Cycles.{CutAt, cut-at}
+use Rattle.solid_sound.proofs.edges.Ends.{FinIn}
+use Rattle.solid_sound.proofs.rows.RowKeeps.{IsWell}
+use Rattle.solid_calls.proofs.LinkedRings.{in-ring_from, ring_at-is, ring_alone}
 use Rattle.solid_calls.proofs.Represented.{Represents}
 use Rattle.solid_edits.proofs.EditedMaps.{HasFin, with_loop, has-fin_same, relabelled-has_fin, relabelled-named, relabelled-ring, relinked-has_fin, relinked-named, ring-same, same-named}
-use Rattle.solid_edits.proofs.PlacedFins.{live_apart, placed-fin, placed-named, placed-other}
+use Rattle.solid_edits.proofs.PlacedFins.{placed-fin, placed-named, placed-other, placed-live}
+use Rattle.list_facts.proofs.Elements.{Contains-first, Contains-only}
+use Rattle.list_facts.proofs.Each.{ByRecursion-contains}
+use Rattle.solid_edits.proofs.RelinkedFins.{loop_read}
+use Rattle.solid_sound.proofs.shapes.Edits.{live-none_of}
 use Rattle.euler_make.proofs.MefReached.{MefReached}
 use Rattle.entity_store.proofs.FirstValues.{get_other, get_put}
 
@@ -32,22 +35,6 @@ abbrev pub mef_made : EntityMap → PlacedFin → Tag → Tag → Tag → Tag �
 mef_made m u v face l edge x y =
     with_entity (with_entity (with_entity (with_entity m face (Some (entity.Face u.shell l))) edge (Some (entity.Edge u.body x)))
     x (Some (entity.Fin l x x y edge v))) y (Some (entity.Fin u.loop_ y y x edge u.vertex))
-
--- a fin that is linked with itself is a ring
-alone : (m : EntityMap) (t l mate edge vertex : Tag) → get m t ≡ Some (entity.Fin l t t mate edge vertex) → IsRing m (t ∷ [])
-alone m t l mate edge vertex is = record {
-  once = (tt, tt);
-  linked = (
-    record {
-      next = ap (λ (o : Option Entity). option_map (λ x. x.next) (option_and_then as_fin o)) is;
-      prev = ap (λ (o : Option Entity). option_map (λ x. x.prev) (option_and_then as_fin o)) is;
-    },
-    tt,
-  );
-}
-
-fin-named : (m : EntityMap) (t l next prev mate edge vertex : Tag) → get m t ≡ Some (entity.Fin l next prev mate edge vertex) → loop_named m t ≡ Some l
-fin-named m t l next prev mate edge vertex is = ap (λ (o : Option Entity). option_map (λ x. x.loop_) (option_and_then as_fin o)) is
 
 module _ (S : Shape) (m : EntityMap) (well : IsWell S) (rep : Represents S m) (f g v face l edge x y : Tag) (u : PlacedFin) (U : FinIn S f u)
     (once : NoRepeats (face ∷ l ∷ edge ∷ x ∷ y ∷ [])) (free : AllByRecursion (λ t. item_at S t ≡ None) (face ∷ l ∷ edge ∷ x ∷ y ∷ []))
@@ -87,42 +74,42 @@ module _ (S : Shape) (m : EntityMap) (well : IsWell S) (rep : Represents S m) (f
   second_among t k = subst (λ ts. Contains ts t) (before-from g u.fins) (Contains-append_right (before g u.fins) (from g u.fins) t k)
 
   -- a fin of the loop is none of the new tags
-  pub fin_apart : (t : Tag) → Contains u.fins t → AllByRecursion (λ q. t ≢ q) new
-  fin_apart t k = let fin = placed-fin S well f u U t k in live_apart S t (Fin fin.0 fin.1 fin.2) new fin.3 free
+  pub fin_apart : (t : Tag) → Contains u.fins t → NoneOf t new
+  fin_apart t k = let fin = placed-fin well U.end t k in live-none_of S new t (Fin fin.0 fin.1 fin.2) free fin.3
 
-  loop_apart : AllByRecursion (λ q. u.loop_ ≢ q) new
-  loop_apart = live_apart S u.loop_ (Loop u.face U.end.list U.end.lone) new U.end.loop_is free
+  loop_apart : NoneOf u.loop_ new
+  loop_apart = live-none_of S new u.loop_ (Loop u.face U.end.list U.end.lone) free U.end.loop_is
 
   not_loop : (t : Tag) → Contains u.fins t → t ≢ u.loop_
-  not_loop t k = let fin = placed-fin S well f u U t k in placed-other S well f u U t fin.0 fin.1 fin.2 fin.3
+  not_loop t k = let fin = placed-fin well U.end t k in placed-other well U.end t fin.0 fin.1 fin.2 fin.3
 
   -- x and y are none of the loops
   pub first_not : (t : Tag) → Contains A t → (t ≢ l) × (t ≢ u.loop_)
   first_not t k = ⊎_elim {C = (t ≢ l) × (t ≢ u.loop_)}
       (λ (j : Contains (before g u.fins) t). ((fin_apart t (first_among t j)).1.0, not_loop t (first_among t j)))
-      (λ (j : Contains (x ∷ []) t). let e : x ≡ t = contains_only x t j in ((λ i. once.1.0.1.0 (sym (e ∙ i))), (λ i. loop_apart.1.1.1.0 (sym (e ∙ i)))))
+      (λ (j : Contains (x ∷ []) t). let e : x ≡ t = Contains-only x t j in ((λ i. once.1.0.1.0 (sym (e ∙ i))), (λ i. loop_apart.1.1.1.0 (sym (e ∙ i)))))
       (Contains-append_cases (before g u.fins) (x ∷ []) t k)
 
   second_not : (t : Tag) → Contains B t → (t ≢ l) × (t ≢ u.loop_)
   second_not t k = ⊎_elim {C = (t ≢ l) × (t ≢ u.loop_)}
       (λ (j : Contains (from g u.fins) t). ((fin_apart t (second_among t j)).1.0, not_loop t (second_among t j)))
-      (λ (j : Contains (y ∷ []) t). let e : y ≡ t = contains_only y t j in ((λ i. once.1.0.1.1.0 (sym (e ∙ i))), (λ i. loop_apart.1.1.1.1.0 (sym (e ∙ i)))))
+      (λ (j : Contains (y ∷ []) t). let e : y ≡ t = Contains-only y t j in ((λ i. once.1.0.1.1.0 (sym (e ∙ i))), (λ i. loop_apart.1.1.1.1.0 (sym (e ∙ i)))))
       (Contains-append_cases (from g u.fins) (y ∷ []) t k)
 
   -- no fin stands in both parts
   pub parts-apart : NoRepeats (u.fins ++ x ∷ y ∷ [])
   parts-apart = NoRepeats-append u.fins (x ∷ y ∷ []) ring.once ((once.1.1.1.0.0, tt), (tt, tt))
-      (ByRecursion-contains (λ t. AllByRecursion (λ q. t ≢ q) (x ∷ y ∷ [])) u.fins (λ t k. (fin_apart t k).1.1.1))
+      (ByRecursion-contains (λ t. NoneOf t (x ∷ y ∷ [])) u.fins (λ t k. (fin_apart t k).1.1.1))
 
   rings_apart : (t : Tag) → Contains A t → Contains B t → ⊥
   rings_apart t j k = ⊎_elim {C = ⊥}
       (λ (a : Contains (before g u.fins) t). ⊎_elim {C = ⊥}
       (λ (b : Contains (from g u.fins) t). NoRepeats-between (before g u.fins) (from g u.fins) t (subst NoRepeats (sym (before-from g u.fins)) ring.once) a b)
-      (λ (b : Contains (y ∷ []) t). (fin_apart t (first_among t a)).1.1.1.1.0 (sym (contains_only y t b)))
+      (λ (b : Contains (y ∷ []) t). (fin_apart t (first_among t a)).1.1.1.1.0 (sym (Contains-only y t b)))
       (Contains-append_cases (from g u.fins) (y ∷ []) t k))
       (λ (a : Contains (x ∷ []) t). ⊎_elim {C = ⊥}
-      (λ (b : Contains (from g u.fins) t). (fin_apart t (second_among t b)).1.1.1.0 (sym (contains_only x t a)))
-      (λ (b : Contains (y ∷ []) t). once.1.1.1.0.0 (contains_only x t a ∙ sym (contains_only y t b)))
+      (λ (b : Contains (from g u.fins) t). (fin_apart t (second_among t b)).1.1.1.0 (sym (Contains-only x t a)))
+      (λ (b : Contains (y ∷ []) t). once.1.1.1.0.0 (Contains-only x t a ∙ sym (Contains-only y t b)))
       (Contains-append_cases (from g u.fins) (y ∷ []) t k))
       (Contains-append_cases (before g u.fins) (x ∷ []) t j)
 
@@ -149,7 +136,7 @@ module _ (S : Shape) (m : EntityMap) (well : IsWell S) (rep : Represents S m) (f
   abbrev x_made : EntityMap
   x_made = with_entity edged x x_put
 
-  made_other : (t : Tag) → AllByRecursion (λ q. t ≢ q) (face ∷ edge ∷ x ∷ y ∷ []) → get made t ≡ get m t
+  made_other : (t : Tag) → NoneOf t (face ∷ edge ∷ x ∷ y ∷ []) → get made t ≡ get m t
   made_other t h = get_other x_made y y_put t h.1.1.1.0 ∙ get_other edged x x_put t h.1.1.0 ∙ get_other faced edge edge_put t h.1.0 ∙ get_other m face face_put t h.0
 
   made_face : get made face ≡ face_put
@@ -165,10 +152,10 @@ module _ (S : Shape) (m : EntityMap) (well : IsWell S) (rep : Represents S m) (f
   made_y = get_put x_made y (Some (entity.Fin u.loop_ y y x edge u.vertex))
 
   pub made-x_ring : IsRing made (x ∷ [])
-  made-x_ring = alone made x l y edge v made_x
+  made-x_ring = ring_alone made x l y edge v made_x
 
   pub made-y_ring : IsRing made (y ∷ [])
-  made-y_ring = alone made y u.loop_ x edge u.vertex made_y
+  made-y_ring = ring_alone made y u.loop_ x edge u.vertex made_y
 
   pub made-same : (t : Tag) → Contains u.fins t → get made t ≡ get m t
   made-same t k = let h = fin_apart t k in made_other t (h.0, (h.1.1.0, (h.1.1.1.0, (h.1.1.1.1.0, tt))))
@@ -198,7 +185,7 @@ module _ (S : Shape) (m : EntityMap) (well : IsWell S) (rep : Represents S m) (f
     parted-in_ring = in-ring_from n f (cut.ahead ++ x ∷ []) (subst (IsRing n) A_is first_ring)
 
     parted_other : (t : Tag) → ¬ (Contains u.fins t) → t ≢ x → t ≢ y → get n t ≡ get made t
-    parted_other t h tx ty = parted.others t ((λ k. h (subst (λ ts. Contains ts t) made-ring_at k)), ((λ k. tx (sym (contains_only x t k))), ((λ k. ty (sym (contains_only y t k))), tt)))
+    parted_other t h tx ty = parted.others t ((λ k. h (subst (λ ts. Contains ts t) made-ring_at k)), ((λ k. tx (sym (Contains-only x t k))), ((λ k. ty (sym (Contains-only y t k))), tt)))
 
     -- ---- the first part names the new loop
 
@@ -248,16 +235,13 @@ module _ (S : Shape) (m : EntityMap) (well : IsWell S) (rep : Represents S m) (f
 
       -- what is no fin of the loop, and none of the tags that are put, is as it was
       same_still : (t : Tag) → ¬ (Contains u.fins t) → t ≢ x → t ≢ y → get p t ≡ get made t
-      same_still t h tx ty = labels.others t (λ k. ⊎_elim (λ (j : Contains (before g u.fins) t). h (first_among t j)) (λ (j : Contains (x ∷ []) t). tx (sym (contains_only x t j))) (Contains-append_cases (before g u.fins) (x ∷ []) t k))
+      same_still t h tx ty = labels.others t (λ k. ⊎_elim (λ (j : Contains (before g u.fins) t). h (first_among t j)) (λ (j : Contains (x ∷ []) t). tx (sym (Contains-only x t j))) (Contains-append_cases (before g u.fins) (x ∷ []) t k))
           ∙ parted_other t h tx ty
-
-      new_free : (t : Tag) → item_at S t ≡ None → ¬ (Contains u.fins t)
-      new_free t none k = let fin = placed-fin S well f u U t k in let both : None ≡ Some (Fin fin.0 fin.1 fin.2) = sym none ∙ fin.3 in absurd (cc)
 
       second_label : (t : Tag) → Contains B t → loop_named made t ≡ Some u.loop_
       second_label t k = ⊎_elim {C = loop_named made t ≡ Some u.loop_}
-          (λ (j : Contains (from g u.fins) t). let among = second_among t j in same-named m made t (made-same t among) ∙ placed-named S well f u U m rep t among)
-          (λ (j : Contains (y ∷ []) t). subst (λ i. loop_named made i ≡ Some u.loop_) (contains_only y t j) (fin-named made y u.loop_ y y x edge u.vertex made_y))
+          (λ (j : Contains (from g u.fins) t). let among = second_among t j in same-named m made t (made-same t among) ∙ placed-named well U.end m rep t among)
+          (λ (j : Contains (y ∷ []) t). subst (λ i. loop_named made i ≡ Some u.loop_) (Contains-only y t j) (loop_read made y u.loop_ y y x edge u.vertex made_y))
           (Contains-append_cases (from g u.fins) (y ∷ []) t k)
 
       pub mef-reached : MefReached m u g v face l edge x y r
@@ -267,11 +251,11 @@ module _ (S : Shape) (m : EntityMap) (well : IsWell S) (rep : Represents S m) (f
         first_named = λ t k. same-named p r t (last_same t (first_not t k)) ∙ relabelled-named n p A l t labels first_ring k;
         second_named = λ t k. same-named p r t (last_same t (second_not t k)) ∙ same-named n p t (labels.others t (λ j. rings_apart t j k))
             ∙ relinked-named made n t u.loop_ (parted.fields t) (second_label t k);
-        face_is = last_same face (once.0.0, (λ e. loop_apart.0 (sym e))) ∙ same_still face (new_free face free.0) once.0.1.1.0 once.0.1.1.1.0 ∙ made_face;
+        face_is = last_same face (once.0.0, (λ e. loop_apart.0 (sym e))) ∙ same_still face (placed-live well U.end face free.0) once.0.1.1.0 once.0.1.1.1.0 ∙ made_face;
         loop_is = get_other q u.loop_ (Some second_loop) l (λ e. loop_apart.1.0 (sym e)) ∙ get_put p l (Some first_loop) ∙ ap (λ ts. Some (entity.Loop face (first_tag (from_least ts)) None)) named-ring_at;
-        edge_is = last_same edge ((λ e. once.1.0.0 (sym e)), (λ e. loop_apart.1.1.0 (sym e))) ∙ same_still edge (new_free edge free.1.1.0) once.1.1.0.0 once.1.1.0.1.0 ∙ made_edge;
-        x_is = fin_last x y edge v (first_not x (Contains-append_right (before g u.fins) (x ∷ []) x (contains_first x []))) (l, x, x, made_x);
-        y_is = fin_last y x edge u.vertex (second_not y (Contains-append_right (from g u.fins) (y ∷ []) y (contains_first y []))) (u.loop_, y, y, made_y);
+        edge_is = last_same edge ((λ e. once.1.0.0 (sym e)), (λ e. loop_apart.1.1.0 (sym e))) ∙ same_still edge (placed-live well U.end edge free.1.1.0) once.1.1.0.0 once.1.1.0.1.0 ∙ made_edge;
+        x_is = fin_last x y edge v (first_not x (Contains-append_right (before g u.fins) (x ∷ []) x (Contains-first x []))) (l, x, x, made_x);
+        y_is = fin_last y x edge u.vertex (second_not y (Contains-append_right (from g u.fins) (y ∷ []) y (Contains-first y []))) (u.loop_, y, y, made_y);
         old_is = get_put q u.loop_ (Some second_loop) ∙ ap (λ ts. Some (entity.Loop u.face (first_tag (from_least ts)) None)) looped-ring_at;
         fins = λ t mate e vertex k is. fin_last t mate e vertex ((fin_apart t k).1.0, not_loop t k) (has-fin_same m made t mate e vertex (made-same t k) is);
         others = λ t h k. last_same t (h.1.0, h.1.1.1.1.1.0) ∙ same_still t k h.1.1.1.0 h.1.1.1.1.0 ∙ made_other t (h.0, (h.1.1.0, (h.1.1.1.0, (h.1.1.1.1.0, tt))));

@@ -1,158 +1,57 @@
--- The map that mekr leaves is that of the shape which its row reaches.
-use Rattle.std.proofs.Common.{◌≡◌, ◌≢◌, ℕ, ◌+◌, ◌<◌, ⊎_elim, Bool, true, false, not, List, [], ◌∷◌, ◌++◌, drop, length, Option, Some, None, Ok, refl, sym, ap, subst, ◌∙◌, length-append, arith}
-use Rattle.std.specs.Prelude.{Contains, IfSome, IsOk, IsTrue, option_map}
+-- mekr: the map that is reached, and that it is that of the shape of its row.
+use Rattle.std.proofs.Common.{◌≡◌, ◌≢◌, ℕ, ◌+◌, ◌<◌, ⊎_elim, List, [], ◌∷◌, ◌++◌, length, Option, Some, None, refl, sym, ap, subst, ◌∙◌, length-append, arith}
+use Rattle.std.specs.Prelude.{Contains, IfSome, IsTrue, option_map}
 use Rattle.std.specs.Option.{option_and_then}
 use Rattle.std.specs.List.{AllByRecursion, flat_map}
 use Rattle.std.specs.FinMap.{get}
-use Rattle.std.proofs.lemmas.Bool.{not-false}
 use Rattle.std.proofs.lemmas.List.Elements.{Contains-append_cases}
-use Rattle.pk_base.specs.Entity.{same_tag}
 use Rattle.pk_base.specs.declared.tag.Tag.{Tag}
 use Rattle.pk_base.specs.declared.entity.Entity.{Entity}
 use Rattle.pk_base.specs.declared.entity.Entity.TheVariants as entity
 use Rattle.pk_base.specs.declared.entity.Class.{Class}
 use Rattle.pk_base.specs.declared.entity.Class.TheVariants as class
-use Rattle.pk_base.specs.declared.refusal.Refusal.TheVariants.{NotOneFace, OneLoop, IsOuter, SameVertex}
 use Rattle.pk_base.specs.declared.call.Call.TheVariants.{Mekr}
 use Rattle.pk_model.specs.Apart.{NoRepeats}
 use Rattle.pk_model.specs.Maps.{EntityMap, with_entity}
-use Rattle.pk_model.specs.Step.{◌>>=◌}
 use Rattle.pk_model.specs.Tags.{TagsAscend, owns}
-use Rattle.pk_model.proofs.TagLists.{ByRecursion-at, ByRecursion-contains, ByRecursion-weaker, NoRepeats-append, contains_only}
-use Rattle.entity_store.specs.Store.{IsHosted, StoreView}
+use Rattle.pk_model.proofs.TagLists.{NoRepeats-append}
+use Rattle.entity_store.specs.Store.{IsHosted}
 use Rattle.entity_store.proofs.FirstValues.{get_other, get_put}
 use Rattle.solid_model.specs.Items.{Item, Shape, item_at, class_of_item, ◌with◌}
 use Rattle.solid_model.specs.Items.Item.{Loop, Fin, Edge}
 use Rattle.solid_model.specs.Rings.{first_tag, from_least, ring_of}
 use Rattle.solid_model.specs.Deaths.{◌without◌}
 use Rattle.solid_model.specs.Room.{if_found, puts_of, puts_of_mekr}
-use Rattle.solid_model.specs.Rows.{Row, makes_three, refuse_where, ◌>>◌}
-use Rattle.solid_model.specs.Places.{End, end_at, outer_at}
+use Rattle.solid_model.specs.Places.{End, end_at}
 use Rattle.solid_model.specs.Mekr.{mekr}
 use Rattle.solid_model.specs.Links.{links}
 use Rattle.solid_model.specs.Shapes.{shape_of}
-use Rattle.solid_model.specs.Sound.{IsSound, class_at}
-use Rattle.solid_sound.proofs.Lists.{contains_cases, differs_means}
-use Rattle.solid_sound.proofs.Cycles.{least-in}
-use Rattle.solid_sound.proofs.Turned.{turned-back, turned-in}
-use Rattle.solid_sound.proofs.Asked.{free_item}
-use Rattle.solid_sound.proofs.Changed.{NoneOf}
-use Rattle.solid_sound.proofs.Edits.{Edits, class_apart, edits}
-use Rattle.solid_sound.proofs.Ends.{EndIn, end-well}
-use Rattle.solid_sound.proofs.KeptMekr.{mekr-keeps}
-use Rattle.solid_sound.proofs.Lookups.{Items, tags_in}
-use Rattle.solid_sound.proofs.Names.{NotAttr}
-use Rattle.solid_sound.proofs.Reading.{fin_in, loop-of_fin}
-use Rattle.solid_sound.proofs.RowKeeps.{IsWell, Keeps, well-shape}
+use Rattle.solid_model.specs.Sound.{class_at}
+use Rattle.solid_sound.proofs.lists.Neighbours.{differs_means, NoneOf}
+use Rattle.solid_sound.proofs.lists.Cycles.{least-in}
+use Rattle.solid_sound.proofs.rows.Asked.{free_item}
+use Rattle.solid_sound.proofs.shapes.Edits.{Edits, class_apart, edits}
+use Rattle.solid_sound.proofs.edges.Ends.{EndIn, end-well}
+use Rattle.solid_sound.proofs.rows.KeptMekr.{mekr-keeps}
+use Rattle.solid_sound.proofs.shapes.Lookups.{Items, tags_in}
+use Rattle.solid_sound.proofs.shapes.Names.{NotAttr}
+use Rattle.solid_sound.proofs.shapes.Reading.{fin_in}
+use Rattle.solid_sound.proofs.rows.RowKeeps.{IsWell, Keeps, well-shape}
 use Rattle.solid_calls.specs.Attributes.{attributes_on}
-use Rattle.solid_calls.specs.LinkedRings.{FinFields, IsInRing, IsRing, Relabels, Relinks, as_fin, fin_in as fin_fields, loop_named, next_at, prev_at, ring_at, ring_of_any}
+use Rattle.solid_calls.specs.LinkedRings.{FinFields, IsInRing, IsRing, Relabels, Relinks, as_fin, fin_in as fin_fields, loop_named, next_at, prev_at, ring_of_any}
 use Rattle.solid_calls.specs.Pairs.{reached}
 use Rattle.solid_edits.specs.Deaths.{Kills, unless_on_any, with_attributes}
+use Rattle.list_facts.proofs.Elements.{Contains-cases, Contains-only}
+use Rattle.list_facts.proofs.Each.{ByRecursion-weaker, ByRecursion-contains, ByRecursion-at}
 use Rattle.euler_make.specs.JoinedLoops.{with_edge}
-use Rattle.solid_places.specs.declared.ends.End.{End as FoundEnd}
 use Rattle.solid_calls.proofs.Deaths.{deaths-of}
-use Rattle.solid_calls.proofs.LinkedRings.{in-ring_from, in-ring_starts, ring-kept, ring-least, ring_at-is}
+use Rattle.solid_calls.proofs.LinkedRings.{ring-kept, ring-least, any_ring, ring_alone, ring_of_any-kept}
 use Rattle.solid_calls.proofs.Represented.{Represents, Shows, represented, represents-sound}
 use Rattle.solid_edits.proofs.WrittenMaps.{edited}
 use Rattle.solid_edits.proofs.KilledMaps.{GainsNoAttribute, unless-fin, unless-plain}
 use Rattle.solid_edits.proofs.PlacedAnew.{IsFinOf, IsSameElsewhere, elsewhere-fin, elsewhere-plain, relabels-elsewhere, relabels-links, relabels-named, relinks-elsewhere, relinks-named, unplaced}
-
--- ---- the row
-
--- what the row says where nothing refuses it
-abbrev pub joined_row : Shape → End → End → Row
-joined_row S u v = makes_three (λ edge f m. S with
-    (edge, Edge u.body) ∷
-    (f, Fin m edge u.vertex) ∷
-    (m, Fin f edge v.vertex) ∷
-    (u.loop_, ring_of u.face (f ∷ v.fins ++ m ∷ u.fins)) ∷ []
-    without v.loop_ ∷ [])
-
--- and by its tests, in their order
-abbrev pub tested_row : Shape → End → End → Bool → Bool → Bool → Bool → Row
-tested_row S u v a b c d =
-    refuse_where a (NotOneFace u.face v.face) >> refuse_where b (OneLoop u.loop_) >> refuse_where c (IsOuter v.loop_) >> refuse_where d (SameVertex u.vertex) >> joined_row S u v
-
-abbrev pub by_tests : Shape → End → End → Row
-by_tests S u v = tested_row S u v (not (same_tag u.face v.face)) (same_tag u.loop_ v.loop_) (same_tag v.loop_ (outer_at S v.face)) (same_tag u.vertex v.vertex)
-
-pub mekr-found : (S : Shape) (k r : Tag) (u v : End) → end_at S k ≡ Ok u → end_at S r ≡ Ok v → mekr S k r ≡ by_tests S u v
-mekr-found S k r u v found other = ap (λ o. o >>= (λ p. end_at S r >>= (λ q. by_tests S p q))) found ∙ ap (λ o. o >>= (λ q. by_tests S u q)) other
-
--- no test refuses
-pub record AreApart (S : Shape) (u v : End) : Type 0 where
-  pub face : same_tag u.face v.face ≡ true
-  pub loops : same_tag u.loop_ v.loop_ ≡ false
-  pub outer : same_tag v.loop_ (outer_at S v.face) ≡ false
-  pub ends : same_tag u.vertex v.vertex ≡ false
-
-tests_pass : (S : Shape) (u v : End) (a b c d : Bool) → IsOk (tested_row S u v a b c d) → (a ≡ false) × (b ≡ false) × (c ≡ false) × (d ≡ false)
-tests_pass S u v true b c d h = absurd (cc)
-tests_pass S u v false true c d h = absurd (cc)
-tests_pass S u v false false true d h = absurd (cc)
-tests_pass S u v false false false true h = absurd (cc)
-tests_pass S u v false false false false h = (refl, refl, refl, refl)
-
-pub mekr-goes : (S : Shape) (k r : Tag) (u v : End) → end_at S k ≡ Ok u → end_at S r ≡ Ok v → IsOk (mekr S k r) → AreApart S u v
-mekr-goes S k r u v found other goes =
-    let h = tests_pass S u v (not (same_tag u.face v.face)) (same_tag u.loop_ v.loop_) (same_tag v.loop_ (outer_at S v.face)) (same_tag u.vertex v.vertex)
-    (subst (λ (o : Row). IsOk o) (mekr-found S k r u v found other) goes) in
-    record { face = not-false (same_tag u.face v.face) h.0; loops = h.1; outer = h.2; ends = h.3 }
-
-pub mekr-is : (S : Shape) (k r : Tag) (u v : End) → end_at S k ≡ Ok u → end_at S r ≡ Ok v → AreApart S u v → mekr S k r ≡ joined_row S u v
-mekr-is S k r u v found other apart = mekr-found S k r u v found other ∙ (λ i. tested_row S u v (not (apart.face i)) (apart.loops i) (apart.outer i) (apart.ends i))
-
--- ---- the ends
-
--- both ends were found, each with a fin of its loop's ring, where there is one, and no test refuses
-pub record AreEnds (m : EntityMap) (k r : Tag) (u v : End) (at_k at_r : Option Tag) : Type 0 where
-  pub sound : IsSound m
-  pub found : end_at (shape_of m) k ≡ Ok u
-  pub other : end_at (shape_of m) r ≡ Ok v
-  pub apart : AreApart (shape_of m) u v
-  pub kept : u.fins ≡ ring_of_any m at_k
-  pub joined : v.fins ≡ ring_of_any m at_r
-  pub kept_ring : IfSome at_k (IsInRing m)
-  pub joined_ring : IfSome at_r (IsInRing m)
-
--- an end that was found, with the fins of its loop
-abbrev pub end_with : FoundEnd → List Tag → End
-end_with x fins = record { vertex = x.vertex; loop_ = x.loop_; face = x.face; body = x.body; fins = fins }
-
-pub ends-found : (s a b : StoreView) (k r : Tag) (x y : FoundEnd) → a ≡ s → b ≡ s → IsSound s.state.map → IsOk (mekr (shape_of s.state.map) k r)
-    → end_at (shape_of a.state.map) k ≡ Ok (end_with x (ring_of_any a.state.map x.first)) → end_at (shape_of b.state.map) r ≡ Ok (end_with y (ring_of_any b.state.map y.first))
-    → IfSome x.first (IsInRing a.state.map) → IfSome y.first (IsInRing b.state.map)
-    → AreEnds s.state.map k r (end_with x (ring_of_any s.state.map x.first)) (end_with y (ring_of_any s.state.map y.first)) x.first y.first
-ends-found s a b k r x y is_a is_b sound goes found other ring_k ring_r =
-    let u = end_with x (ring_of_any s.state.map x.first) in
-    let v = end_with y (ring_of_any s.state.map y.first) in
-    let here : end_at (shape_of s.state.map) k ≡ Ok u = subst (λ (z : StoreView). end_at (shape_of z.state.map) k ≡ Ok (end_with x (ring_of_any z.state.map x.first))) is_a found in
-    let there : end_at (shape_of s.state.map) r ≡ Ok v = subst (λ (z : StoreView). end_at (shape_of z.state.map) r ≡ Ok (end_with y (ring_of_any z.state.map y.first))) is_b other in
-    record {
-      sound = sound;
-      found = here;
-      other = there;
-      apart = mekr-goes (shape_of s.state.map) k r u v here there goes;
-      kept = refl;
-      joined = refl;
-      kept_ring = subst (λ (z : StoreView). IfSome x.first (IsInRing z.state.map)) is_a ring_k;
-      joined_ring = subst (λ (z : StoreView). IfSome y.first (IsInRing z.state.map)) is_b ring_r;
-    }
-
--- ---- rings, where there is one
-
-pub ring-of_any : (m : EntityMap) (o : Option Tag) → IfSome o (IsInRing m) → IsRing m (ring_of_any m o)
-ring-of_any m None h = record { once = tt; linked = tt }
-ring-of_any m (Some f) h = h.ring
-
--- a ring whose links stay is read again
-pub ring_of_any-kept : (m n : EntityMap) (o : Option Tag) → IfSome o (IsInRing m) → ((t : Tag) → Contains (ring_of_any m o) t → (next_at n t ≡ next_at m t) × (prev_at n t ≡ prev_at m t))
-    → (ring_of_any n o ≡ ring_of_any m o) × IfSome o (IsInRing n)
-ring_of_any-kept m n None h same = (refl, tt)
-ring_of_any-kept m n (Some f) h same =
-    let starts = in-ring_starts m f h in
-    let is : IsRing n (f ∷ drop 1 (ring_at m f)) = subst (IsRing n) starts (ring-kept m n (ring_at m f) h.ring same) in
-    (ring_at-is n f (drop 1 (ring_at m f)) is ∙ sym starts, in-ring_from n f (drop 1 (ring_at m f)) is)
+use Rattle.solid_edits.proofs.PlacedFins.{placed-class, placed-listed, placed-loop, placed-named}
+use Rattle.euler_make.proofs.MekrFound.{joined_row, mekr-is, AreEnds}
 
 -- ---- the edge that is put
 
@@ -183,8 +82,6 @@ module _ (m : EntityMap) (e f g body l from to : Tag) (once : NoRepeats (e ∷ f
 
   pub edge-mate : get new g ≡ Some back
   edge-mate = get_put with_out g (Some back)
-
--- ---- the loops
 
 module _ (m : EntityMap) (k r : Tag) (u v : End) (at_k at_r : Option Tag) (at : AreEnds m k r u v at_k at_r) where
   abbrev S : Shape
@@ -218,32 +115,32 @@ module _ (m : EntityMap) (k r : Tag) (u v : End) (at_k at_r : Option Tag) (at : 
   v_class : class_at S v.loop_ ≡ Some class.Loop
   v_class = ap (option_map class_of_item) G.loop_is
 
-  a_list : (t : Tag) → Contains mekr_a t → Contains G.list t
-  a_list t c = turned-in v.fins G.list (turned-back G.list v.fins G.turned) t (subst (λ ts. Contains ts t) (sym at.joined) c)
+  in_a : (t : Tag) → Contains mekr_a t → Contains v.fins t
+  in_a t c = subst (λ ts. Contains ts t) (sym at.joined) c
 
-  b_list : (t : Tag) → Contains mekr_b t → Contains E.list t
-  b_list t c = turned-in u.fins E.list (turned-back E.list u.fins E.turned) t (subst (λ ts. Contains ts t) (sym at.kept) c)
+  in_b : (t : Tag) → Contains mekr_b t → Contains u.fins t
+  in_b t c = subst (λ ts. Contains ts t) (sym at.kept) c
 
   pub a-class : (t : Tag) → Contains mekr_a t → class_at S t ≡ Some class.Fin
-  a-class t c = ap (option_map class_of_item) (fin_in S well.written well.sound v.loop_ v.face G.list G.lone G.loop_is t (a_list t c)).3
+  a-class t c = placed-class well G t (in_a t c)
 
   pub b-class : (t : Tag) → Contains mekr_b t → class_at S t ≡ Some class.Fin
-  b-class t c = ap (option_map class_of_item) (fin_in S well.written well.sound u.loop_ u.face E.list E.lone E.loop_is t (b_list t c)).3
+  b-class t c = placed-class well E t (in_b t c)
 
   a_loop : (t : Tag) → Contains mekr_a t → (l face : Tag) (fins : List Tag) (vertex : Option Tag) → item_at S l ≡ Some (Loop face fins vertex) → Contains fins t → l ≡ v.loop_
-  a_loop t c l face fins vertex is i = sym (loop-of_fin S well.written well.sound l face fins vertex is t i) ∙ loop-of_fin S well.written well.sound v.loop_ v.face G.list G.lone G.loop_is t (a_list t c)
+  a_loop t c l face fins vertex is i = placed-loop well G l face fins vertex is t i (in_a t c)
 
   b_loop : (t : Tag) → Contains mekr_b t → (l face : Tag) (fins : List Tag) (vertex : Option Tag) → item_at S l ≡ Some (Loop face fins vertex) → Contains fins t → l ≡ u.loop_
-  b_loop t c l face fins vertex is i = sym (loop-of_fin S well.written well.sound l face fins vertex is t i) ∙ loop-of_fin S well.written well.sound u.loop_ u.face E.list E.lone E.loop_is t (b_list t c)
+  b_loop t c l face fins vertex is i = placed-loop well E l face fins vertex is t i (in_b t c)
 
   not_both : (t : Tag) → Contains mekr_a t → Contains mekr_b t → ⊥
-  not_both t a b = other_loop (a_loop t a u.loop_ u.face E.list E.lone E.loop_is (b_list t b))
+  not_both t a b = other_loop (a_loop t a u.loop_ u.face E.list E.lone E.loop_is (placed-listed well E t (in_b t b)))
 
   a_ring : IsRing m mekr_a
-  a_ring = ring-of_any m at_r at.joined_ring
+  a_ring = any_ring m at_r at.joined_ring
 
   b_ring : IsRing m mekr_b
-  b_ring = ring-of_any m at_k at.kept_ring
+  b_ring = any_ring m at_k at.kept_ring
 
   -- the ring is given to the loop, none of whose fins it is
   pub mekr-no_fin : ¬ (Contains mekr_a u.loop_)
@@ -342,23 +239,11 @@ module _ (m : EntityMap) (k r : Tag) (u v : End) (at_k at_r : Option Tag) (at : 
     pub mekr-kept : (ring_of_any m4 at_k ≡ mekr_b) × IfSome at_k (IsInRing m4)
     mekr-kept = ring_of_any-kept m m4 at_k at.kept_ring (λ t c. m4-links t (b-class t c))
 
-    alone : (t mate vertex : Tag) → get m4 t ≡ Some (entity.Fin u.loop_ t t mate e vertex) → IsRing m4 (t ∷ [])
-    alone t mate vertex is = record {
-      once = (tt, tt);
-      linked = (
-        record {
-          next = ap (λ (x : Option Entity). option_map (λ (y : FinFields). y.next) (option_and_then as_fin x)) is;
-          prev = ap (λ (x : Option Entity). option_map (λ (y : FinFields). y.prev) (option_and_then as_fin x)) is;
-        },
-        tt,
-      );
-    }
-
     pub mekr-fin_alone : IsRing m4 (f ∷ [])
-    mekr-fin_alone = alone f g u.vertex m4-fin
+    mekr-fin_alone = ring_alone m4 f u.loop_ g e u.vertex m4-fin
 
     pub mekr-mate_alone : IsRing m4 (g ∷ [])
-    mekr-mate_alone = alone g f v.vertex m4-mate
+    mekr-mate_alone = ring_alone m4 g u.loop_ f e v.vertex m4-mate
 
     -- no fin stands in the ring twice
     pub mekr-once : NoRepeats ring
@@ -366,14 +251,14 @@ module _ (m : EntityMap) (k r : Tag) (u v : End) (at_k at_r : Option Tag) (at : 
         let a_new = λ (t : Tag) (c : Contains mekr_a t). not_new t class.Fin (a-class t c) in
         let b_new = λ (t : Tag) (c : Contains mekr_b t). not_new t class.Fin (b-class t c) in
         let behind : NoRepeats (g ∷ mekr_b) = (ByRecursion-contains (λ t. g ≢ t) mekr_b (λ t c same. (b_new t c).1.1.0 (sym same)), b_ring.once) in
-        let apart : AllByRecursion (λ x. AllByRecursion (λ y. x ≢ y) (g ∷ mekr_b)) mekr_a = ByRecursion-contains (λ x. AllByRecursion (λ y. x ≢ y) (g ∷ mekr_b)) mekr_a
+        let apart : AllByRecursion (λ x. NoneOf x (g ∷ mekr_b)) mekr_a = ByRecursion-contains (λ x. NoneOf x (g ∷ mekr_b)) mekr_a
         (λ x c. ((a_new x c).1.1.0, ByRecursion-contains (λ y. x ≢ y) mekr_b (λ y d same. not_both x c (subst (Contains mekr_b) (sym same) d)))) in (
           ByRecursion-contains (λ t. f ≢ t) (mekr_a ++ g ∷ mekr_b) (λ t c same. ⊎_elim
               (λ (i : Contains mekr_a t). (a_new t i).1.0 (sym same))
               (λ (j : Contains (g ∷ mekr_b) t). ⊎_elim
               (λ (h : g ≡ t). once.1.0.0 (same ∙ sym h))
               (λ (h : Contains mekr_b t). (b_new t h).1.0 (sym same))
-              (contains_cases g mekr_b t j))
+              (Contains-cases g mekr_b t j))
               (Contains-append_cases mekr_a (g ∷ mekr_b) t c)),
           NoRepeats-append mekr_a (g ∷ mekr_b) a_ring.once behind apart,
         )
@@ -389,7 +274,7 @@ module _ (m : EntityMap) (k r : Tag) (u v : End) (at_k at_r : Option Tag) (at : 
       -- such a tag is of another loop, or no fin
       m5-other : (t : Tag) → NoneOf t news → ¬ (Contains mekr_a t) → ¬ (Contains mekr_b t) → get m5 t ≡ get m1 t
       m5-other t none no_a no_b =
-          joins.others t (no_a, (no_b, ((λ c. none.1.0 (sym (contains_only f t c))), ((λ c. none.1.1.0 (sym (contains_only g t c))), tt)))) ∙ m4-other t none
+          joins.others t (no_a, (no_b, ((λ c. none.1.0 (sym (Contains-only f t c))), ((λ c. none.1.1.0 (sym (Contains-only g t c))), tt)))) ∙ m4-other t none
 
       n-other : (t : Tag) → t ≢ u.loop_ → get n t ≡ get m5 t
       n-other t other = ap (λ x. get x t) put ∙ get_other m5 u.loop_ (Some (entity.Loop u.face (Some least) None)) t other
@@ -473,8 +358,8 @@ module _ (m : EntityMap) (k r : Tag) (u v : End) (at_k at_r : Option Tag) (at : 
 
         in_ring : (t : Tag) → Contains ring t → (P : Type 0) → (f ≡ t → P) → (g ≡ t → P) → (Contains mekr_a t → P) → (Contains mekr_b t → P) → P
         in_ring t c P on_f on_g on_a on_b = ⊎_elim on_f
-            (λ (i : Contains (mekr_a ++ g ∷ mekr_b) t). ⊎_elim on_a (λ (j : Contains (g ∷ mekr_b) t). ⊎_elim on_g on_b (contains_cases g mekr_b t j)) (Contains-append_cases mekr_a (g ∷ mekr_b) t i))
-            (contains_cases f (mekr_a ++ g ∷ mekr_b) t c)
+            (λ (i : Contains (mekr_a ++ g ∷ mekr_b) t). ⊎_elim on_a (λ (j : Contains (g ∷ mekr_b) t). ⊎_elim on_g on_b (Contains-cases g mekr_b t j)) (Contains-append_cases mekr_a (g ∷ mekr_b) t i))
+            (Contains-cases f (mekr_a ++ g ∷ mekr_b) t c)
 
         -- each is as it was linked
         fields : (t : Tag) → Contains ring t → fin_fields q t ≡ fin_fields m5 t
@@ -494,7 +379,7 @@ module _ (m : EntityMap) (k r : Tag) (u v : End) (at_k at_r : Option Tag) (at : 
             (λ h. subst (λ x. loop_named m4 x ≡ Some u.loop_) h (ap named_by m4-mate))
             (λ h. ap named_by (m4-other t (not_new t class.Fin (a-class t h))) ∙ relabels-named m m1 mekr_a u.loop_ a_ring labels t h)
             (λ h. ap named_by (m4-other t (not_new t class.Fin (b-class t h)) ∙ labels.others t (λ i. not_both t i h))
-            ∙ ByRecursion-at (λ x. loop_named m x ≡ Some u.loop_) E.list t (was.items u.loop_ _ E.loop_is).2 (b_list t h))
+            ∙ placed-named well E m was t (in_b t h))
 
         q-named : (t : Tag) → Contains ring t → loop_named q t ≡ Some u.loop_
         q-named t c = ap (option_map (λ (x : FinFields). x.loop_)) (fields t c) ∙ relinks-named m4 m5 _ _ joins t ∙ m4-named t c

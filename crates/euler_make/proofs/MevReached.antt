@@ -1,6 +1,6 @@
--- The map that mev leaves represents the shape that its row reaches.
-use Rattle.std.proofs.Common.{◌≡◌, ◌≢◌, ◌<◌, ⊎_elim, List, [], ◌∷◌, Option, Some, None, refl, sym, ap, subst, ◌∙◌, arith}
-use Rattle.std.specs.Prelude.{Contains, IfSome, option_map}
+-- mev: the map that is reached, and that it is that of the shape of its row.
+use Rattle.std.proofs.Common.{◌≡◌, ◌≢◌, ⊎_elim, List, [], ◌∷◌, Option, Some, None, refl, sym, ap, subst, ◌∙◌, arith}
+use Rattle.std.specs.Prelude.{Contains, option_map}
 use Rattle.std.specs.List.{AllByRecursion}
 use Rattle.std.specs.FinMap.{get}
 use Rattle.std.proofs.lemmas.Option.{same_Some}
@@ -8,104 +8,30 @@ use Rattle.pk_base.specs.declared.tag.Tag.{Tag}
 use Rattle.pk_base.specs.declared.entity.Point.{Point}
 use Rattle.pk_base.specs.declared.entity.Entity.{Entity}
 use Rattle.pk_base.specs.declared.entity.Entity.TheVariants as entity
-use Rattle.pk_base.specs.declared.entity.Class.TheVariants as class
 use Rattle.pk_model.specs.Apart.{NoRepeats}
 use Rattle.pk_model.specs.Maps.{EntityMap, with_entity}
 use Rattle.pk_model.specs.Tags.{TagsAscend}
-use Rattle.pk_model.proofs.TagLists.{ByRecursion-at, ByRecursion-contains, ByRecursion-weaker}
 use Rattle.entity_store.proofs.FirstValues.{get_put, get_other}
-use Rattle.solid_model.specs.Items.{Item, Shape, item_at, class_of_item, ◌with◌}
-use Rattle.solid_model.specs.Items.Item.{Body, Shell, Face, Loop, Fin, Edge, Vertex, Attr}
+use Rattle.solid_model.specs.Items.{Item, Shape, item_at, ◌with◌}
+use Rattle.solid_model.specs.Items.Item.{Fin, Edge, Vertex}
 use Rattle.solid_model.specs.Rings.{first_tag, from_least, ring_of}
-use Rattle.solid_model.specs.Owners.{fins_of}
 use Rattle.solid_model.specs.Places.{End}
-use Rattle.solid_model.specs.Sound.{class_at}
-use Rattle.solid_sound.proofs.Lists.{contains_cases, not_in_nil}
-use Rattle.solid_sound.proofs.Cycles.{least-in}
-use Rattle.solid_sound.proofs.Turned.{turned-back, turned-in}
-use Rattle.solid_sound.proofs.Reading.{fin_in, loop-of_fin}
-use Rattle.solid_sound.proofs.Lookups.{Items, is_written, tags_in, with-other, with-written}
-use Rattle.solid_sound.proofs.Ends.{EndIn}
-use Rattle.solid_sound.proofs.Changed.{NoneOf}
-use Rattle.solid_sound.proofs.RowKeeps.{IsWell}
-use Rattle.solid_calls.specs.LinkedRings.{IsInRing, IsRing, Relinks, loop_named, ring_at, ring_of_any, unlinked}
-use Rattle.solid_calls.proofs.LinkedRings.{in-ring_from, in-ring_starts, ring-kept, ring-least, ring_at-is}
+use Rattle.solid_sound.proofs.lists.Cycles.{least-in}
+use Rattle.solid_sound.proofs.shapes.Lookups.{Items, is_written, tags_in, with-other, with-written}
+use Rattle.solid_sound.proofs.edges.Ends.{EndIn}
+use Rattle.solid_sound.proofs.lists.Neighbours.{NoneOf, once-last}
+use Rattle.solid_sound.proofs.rows.RowKeeps.{IsWell}
+use Rattle.solid_calls.specs.LinkedRings.{Relinks, loop_named, unlinked}
+use Rattle.solid_calls.proofs.LinkedRings.{ring-kept, ring-least}
 use Rattle.solid_calls.proofs.Represented.{IsLesserFin, Represents, Shows}
-use Rattle.solid_edits.proofs.RelinkedFins.{SameFields, fin-fields, links-same, loop-same, loop_named-fields, loop_read, none-fields, shows-linked}
-
--- ---- the tags that are taken
-
-below : (t u : Tag) → t.0 < u.0 → t ≢ u
-below t u h e = let same : t.0 ≡ u.0 = ap (λ (x : Tag). x.0) e in omega arith
-
-pub ascend-once : (ts : List Tag) → TagsAscend ts → NoRepeats ts
-ascend-once [] h = tt
-ascend-once (t ∷ ts) h = (ByRecursion-weaker _ _ (λ u k. below t u k) ts h.0, ascend-once ts h.1)
-
--- what is live is none of the tags that are free
-pub live-none_of : (S : Shape) (ts : List Tag) (t : Tag) (x : Item) → AllByRecursion (λ s. item_at S s ≡ None) ts → item_at S t ≡ Some x → NoneOf t ts
-live-none_of S ts t x free is = ByRecursion-weaker _ _ (λ s none e. let both : None ≡ Some x = sym none ∙ ap (item_at S) (sym e) ∙ is in absurd (cc)) ts free
-
--- ---- the ring that was, in a map with more entities
-
-pub ring-more : (m n : EntityMap) (first : Option Tag) → IfSome first (IsInRing m) → ((f : Tag) → Contains (ring_of_any m first) f → get n f ≡ get m f)
-    → (ring_of_any n first ≡ ring_of_any m first) × IfSome first (IsInRing n)
-ring-more m n None h same = (refl, tt)
-ring-more m n (Some f) h same =
-    let starts = in-ring_starts m f h in
-    let ring : IsRing n (ring_at m f) = ring-kept m n (ring_at m f) h.ring (λ t k. links-same m n t (same t k)) in
-    let written = subst (IsRing n) starts ring in
-    (ring_at-is n f _ written ∙ sym starts, in-ring_from n f _ written)
-
--- ---- what was there
-
--- the ring of an end, and tags that are free
-module _ (S : Shape) (well : IsWell S) (u : End) (E : EndIn S u) (news : List Tag) (free : AllByRecursion (λ t. item_at S t ≡ None) news) where
-  pub listed : (f : Tag) → Contains u.fins f → Contains E.list f
-  listed f k = turned-in u.fins E.list (turned-back E.list u.fins E.turned) f k
-
-  pub fin_was : (f : Tag) → Contains u.fins f → (mate : Tag) × (edge : Tag) × (start : Tag) × (item_at S f ≡ Some (Fin mate edge start))
-  fin_was f k = fin_in S well.written well.sound u.loop_ u.face E.list E.lone E.loop_is f (listed f k)
-
-  pub fin_class : (f : Tag) → Contains u.fins f → class_at S f ≡ Some class.Fin
-  fin_class f k = ap (option_map class_of_item) (fin_was f k).3
-
-  pub fin_old : (f : Tag) → Contains u.fins f → NoneOf f news
-  fin_old f k = live-none_of S news f _ free (fin_was f k).3
-
-  pub loop_old : NoneOf u.loop_ news
-  loop_old = live-none_of S news u.loop_ _ free E.loop_is
-
-  pub not_loop : (t mate edge start : Tag) → item_at S t ≡ Some (Fin mate edge start) → t ≢ u.loop_
-  not_loop t mate edge start is same = let both : Some (Fin mate edge start) ≡ Some (Loop u.face E.list E.lone) = sym is ∙ ap (item_at S) same ∙ E.loop_is in absurd (cc)
-
-  -- a fin of another loop
-  pub other_fin : (t : Tag) (x : Item) → item_at S t ≡ Some x → t ≢ u.loop_ → (f : Tag) → Contains (fins_of x) f
-      → (¬ (Contains u.fins f)) × ((mate : Tag) × (edge : Tag) × (start : Tag) × (item_at S f ≡ Some (Fin mate edge start)))
-  other_fin t (Loop face list lone) is other f k = (
-    (λ j. other (sym (loop-of_fin S well.written well.sound t face list lone is f k) ∙ loop-of_fin S well.written well.sound u.loop_ u.face E.list E.lone E.loop_is f (listed f j))),
-    fin_in S well.written well.sound t face list lone is f k,
-  )
-  other_fin t (Body shell) is other f k = absurd (not_in_nil f k)
-  other_fin t (Shell body q) is other f k = absurd (not_in_nil f k)
-  other_fin t (Face shell outer) is other f k = absurd (not_in_nil f k)
-  other_fin t (Fin mate edge vertex) is other f k = absurd (not_in_nil f k)
-  other_fin t (Edge body) is other f k = absurd (not_in_nil f k)
-  other_fin t (Vertex body point) is other f k = absurd (not_in_nil f k)
-  other_fin t (Attr owner name value) is other f k = absurd (not_in_nil f k)
-
-  pub new_apart : (t : Tag) → item_at S t ≡ None → ¬ (Contains u.fins t)
-  new_apart t none k = let both : None ≡ Some (Fin (fin_was t k).0 (fin_was t k).1 (fin_was t k).2) = sym none ∙ (fin_was t k).3 in absurd (cc)
-
--- ---- the maps, one after another
-
--- The new vertex w, the edge e and its fins n and m are put, each fin a ring alone.
-pub record StrutPut (m0 m1 : EntityMap) (u : End) (w e n m : Tag) (p : Point) : Type 0 where
-  pub at_w : get m1 w ≡ Some (entity.Vertex u.body p)
-  pub at_e : get m1 e ≡ Some (entity.Edge u.body n)
-  pub at_n : get m1 n ≡ Some (entity.Fin u.loop_ n n m e u.vertex)
-  pub at_m : get m1 m ≡ Some (entity.Fin u.loop_ m m n e w)
-  pub others : (t : Tag) → NoneOf t (w ∷ e ∷ n ∷ m ∷ []) → get m1 t ≡ get m0 t
+use Rattle.solid_edits.proofs.RelinkedFins.{SameFields, fin-fields, loop_named-fields, loop_read, none-fields, shows-linked}
+use Rattle.list_facts.proofs.Elements.{not_in_nil, Contains-cases}
+use Rattle.list_facts.proofs.Each.{ByRecursion-contains, ByRecursion-at}
+use Rattle.solid_calls.proofs.Sizes.{apart-ascending}
+use Rattle.solid_edits.proofs.EditedMaps.{same-links, same-named}
+use Rattle.solid_sound.proofs.shapes.Edits.{live-none_of}
+use Rattle.solid_edits.proofs.PlacedFins.{placed-class, placed-elsewhere, placed-fin, placed-live, placed-named, placed-other}
+use Rattle.euler_make.proofs.MevSteps.{StrutPut}
 
 -- Then the fins are put into the ring, and the loop names the least of it.
 module _ (S : Shape) (well : IsWell S) (m0 m1 m2 : EntityMap) (rep : Represents S m0) (u : End) (E : EndIn S u) (w e n m : Tag) (p : Point)
@@ -130,19 +56,10 @@ module _ (S : Shape) (well : IsWell S) (m0 m1 m2 : EntityMap) (rep : Represents 
   m3 = with_entity m2 u.loop_ new_loop
 
   once : NoRepeats news
-  once = ascend-once news ascend
-
-  was : (f : Tag) → Contains u.fins f → (mate : Tag) × (edge : Tag) × (start : Tag) × (item_at S f ≡ Some (Fin mate edge start))
-  was = fin_was S well u E news free
+  once = apart-ascending news ascend
 
   old_loop : NoneOf u.loop_ news
-  old_loop = loop_old S well u E news free
-
-  no_loop : (t mate edge start : Tag) → item_at S t ≡ Some (Fin mate edge start) → t ≢ u.loop_
-  no_loop = not_loop S well u E news free
-
-  outside : (t : Tag) → item_at S t ≡ None → ¬ (Contains u.fins t)
-  outside = new_apart S well u E news free
+  old_loop = live-none_of S news u.loop_ _ free E.loop_is
 
   -- ---- the map that is left
 
@@ -157,7 +74,7 @@ module _ (S : Shape) (well : IsWell S) (m0 m1 m2 : EntityMap) (rep : Represents 
   apart t out tn tm = relinks.others t (not_in_nil t, (out, ((λ k. tn (only n t k)), ((λ k. tm (only m t k)), tt))))
     where
       only : (s t : Tag) → Contains (s ∷ []) t → t ≡ s
-      only s t k = ⊎_elim (λ (h : s ≡ t). sym h) (λ (h : Contains [] t). absurd (not_in_nil t h)) (contains_cases s [] t k)
+      only s t k = ⊎_elim (λ (h : s ≡ t). sym h) (λ (h : Contains [] t). absurd (not_in_nil t h)) (Contains-cases s [] t k)
 
   fields : (t : Tag) → NoneOf t news → t ≢ u.loop_ → SameFields m0 m3 t
   fields t old other = ap (option_map unlinked) (beside t other) ∙ relinks.fields t ∙ ap (option_map unlinked) (put.others t old)
@@ -168,25 +85,19 @@ module _ (S : Shape) (well : IsWell S) (m0 m1 m2 : EntityMap) (rep : Represents 
   -- ---- what is written
 
   written_once : NoRepeats (tags_in xs)
-  written_once = (
-    (once.0.0, (once.0.1.0, (once.0.1.1.0, ((λ h. old_loop.0 (sym h)), tt)))),
-    (
-      (once.1.0.0, (once.1.0.1.0, ((λ h. old_loop.1.0 (sym h)), tt))),
-      ((once.1.1.0.0, ((λ h. old_loop.1.1.0 (sym h)), tt)), (((λ h. old_loop.1.1.1.0 (sym h)), tt), (tt, tt))),
-    ),
-  )
+  written_once = once-last news u.loop_ once old_loop
 
   now : (t : Tag) (x : Item) → Contains xs (t, x) → item_at R t ≡ Some x
   now t x k = with-written S xs t x written_once k
 
   shows_w : Shows R m3 w (Vertex u.body p)
-  shows_w = beside w (λ h. old_loop.0 (sym h)) ∙ apart w (outside w free.0) once.0.1.0 once.0.1.1.0 ∙ put.at_w
+  shows_w = beside w (λ h. old_loop.0 (sym h)) ∙ apart w (placed-live well E w free.0) once.0.1.0 once.0.1.1.0 ∙ put.at_w
 
   n_least : IsLesserFin R e n
   n_least = record { mate = m; vertex = u.vertex; fin_is = now n (Fin m e u.vertex) (2, omega arith, refl); less = ascend.1.1.0.0 }
 
   shows_e : Shows R m3 e (Edge u.body)
-  shows_e = (n, beside e (λ h. old_loop.1.0 (sym h)) ∙ apart e (outside e free.1.0) once.1.0.0 once.1.0.1.0 ∙ put.at_e, n_least)
+  shows_e = (n, beside e (λ h. old_loop.1.0 (sym h)) ∙ apart e (placed-live well E e free.1.0) once.1.0.0 once.1.0.1.0 ∙ put.at_e, n_least)
 
   shows_n : Shows R m3 n (Fin m e u.vertex)
   shows_n =
@@ -201,16 +112,16 @@ module _ (S : Shape) (well : IsWell S) (m0 m1 m2 : EntityMap) (rep : Represents 
   in_ring : (P : Tag → Type 0) → P n → P m → ((f : Tag) → Contains u.fins f → P f) → (f : Tag) → Contains ring f → P f
   in_ring P at_n at_m rest f k =
       ⊎_elim {C = P f} (λ (h : n ≡ f). subst P h at_n)
-      (λ (j : Contains (m ∷ u.fins) f). ⊎_elim {C = P f} (λ (h : m ≡ f). subst P h at_m) (λ (i : Contains u.fins f). rest f i) (contains_cases m u.fins f j))
-      (contains_cases n (m ∷ u.fins) f k)
+      (λ (j : Contains (m ∷ u.fins) f). ⊎_elim {C = P f} (λ (h : m ≡ f). subst P h at_m) (λ (i : Contains u.fins f). rest f i) (Contains-cases m u.fins f j))
+      (Contains-cases n (m ∷ u.fins) f k)
 
   ring_beside : (f : Tag) → Contains ring f → f ≢ u.loop_
-  ring_beside = in_ring (λ f. f ≢ u.loop_) (λ h. old_loop.1.1.0 (sym h)) (λ h. old_loop.1.1.1.0 (sym h)) (λ f k. no_loop f _ _ _ (was f k).3)
+  ring_beside = in_ring (λ f. f ≢ u.loop_) (λ h. old_loop.1.1.0 (sym h)) (λ h. old_loop.1.1.1.0 (sym h)) (λ f k. placed-other well E f _ _ _ (placed-fin well E f k).3)
 
   loop_of_old : (f : Tag) → Contains u.fins f → loop_named m1 f ≡ Some u.loop_
   loop_of_old f k =
-      loop-same m0 m1 f (put.others f (fin_old S well u E news free f k))
-      ∙ ByRecursion-at (λ t. loop_named m0 t ≡ Some u.loop_) E.list f (rep.items u.loop_ (Loop u.face E.list E.lone) E.loop_is).2 (listed S well u E news free f k)
+      same-named m0 m1 f (put.others f (live-none_of S news f _ free (placed-fin well E f k).3))
+      ∙ placed-named well E m0 rep f k
 
   loop_of_ring : (f : Tag) → Contains ring f → loop_named m1 f ≡ Some u.loop_
   loop_of_ring = in_ring (λ f. loop_named m1 f ≡ Some u.loop_) (fin_names n n m u.vertex put.at_n) (fin_names m m n w put.at_m) loop_of_old
@@ -221,10 +132,10 @@ module _ (S : Shape) (well : IsWell S) (m0 m1 m2 : EntityMap) (rep : Represents 
   shows_loop : Shows R m3 u.loop_ (ring_of u.face ring)
   shows_loop = (
     at_loop,
-    ring-least m3 ring (ring-kept m2 m3 ring relinks.rings.0 (λ t k. links-same m2 m3 t (beside t (ring_beside t k)))),
+    ring-least m3 ring (ring-kept m2 m3 ring relinks.rings.0 (λ t k. same-links m2 m3 t (beside t (ring_beside t k)))),
     ByRecursion-contains (λ f. loop_named m3 f ≡ Some u.loop_) (from_least ring) (λ f k.
         let j = least-in f ring k in
-        loop-same m2 m3 f (beside f (ring_beside f j)) ∙ loop_named-fields m1 m2 f (relinks.fields f) ∙ loop_of_ring f j),
+        same-named m2 m3 f (beside f (ring_beside f j)) ∙ loop_named-fields m1 m2 f (relinks.fields f) ∙ loop_of_ring f j),
   )
 
   shows_written : (t : Tag) (x : Item) → Contains xs (t, x) → Shows R m3 t x
@@ -238,14 +149,14 @@ module _ (S : Shape) (well : IsWell S) (m0 m1 m2 : EntityMap) (rep : Represents 
   fin_stays : (f mate edge start : Tag) → item_at S f ≡ Some (Fin mate edge start) → item_at R f ≡ Some (Fin mate edge start)
   fin_stays f mate edge start is =
       let old = live-none_of S news f _ free is in
-      with-other S xs f (old.0, (old.1.0, (old.1.1.0, (old.1.1.1.0, (no_loop f mate edge start is, tt))))) ∙ is
+      with-other S xs f (old.0, (old.1.0, (old.1.1.0, (old.1.1.1.0, (placed-other well E f mate edge start is, tt))))) ∙ is
 
   shows_stays : (t : Tag) (x : Item) → item_at S t ≡ Some x → NoneOf t (tags_in xs) → Shows R m3 t x
   shows_stays t x is h =
       let new = none_new t h in
-      shows-linked S R m0 m3 u.fins (fin_class S well u E news free) t x is (rep.items t x is) (fields t new.0 new.1) (stays t new.0 new.1) (λ f k.
-      let o = other_fin S well u E news free t x is new.1 f k in
-      stays f (live-none_of S news f _ free o.1.3) (no_loop f _ _ _ o.1.3) o.0)
+      shows-linked S R m0 m3 u.fins (placed-class well E) t x is (rep.items t x is) (fields t new.0 new.1) (stays t new.0 new.1) (λ f k.
+      let o = placed-elsewhere well E t x is new.1 f k in
+      stays f (live-none_of S news f _ free o.1.3) (placed-other well E f _ _ _ o.1.3) o.0)
       (λ f mate edge start f_is same. fin_stays f mate edge start f_is)
 
   pub mev-represents : Represents R m3

@@ -1,74 +1,26 @@
--- mfkrh: what the row reaches, and the map once the face is made and has the ring.
-use Rattle.std.proofs.Common.{◌≡◌, ◌≢◌, ⊎_elim, List, [], ◌∷◌, Option, Some, None, Ok, sym, ap, subst, ◌∙◌, arith}
-use Rattle.std.specs.Prelude.{ℤ, pos, ◌+ℤ◌, IsOk, option_map}
+-- mfkrh: the map that is reached, and that it is that of the shape of its row.
+use Rattle.std.proofs.Common.{◌≡◌, ◌≢◌, ⊎_elim, [], ◌∷◌, Some, None, sym, ap, subst, ◌∙◌, arith}
+use Rattle.std.specs.Prelude.{pos, ◌+ℤ◌, option_map}
 use Rattle.std.specs.FinMap.{get}
-use Rattle.pk_base.specs.Entity.{same_tag}
 use Rattle.pk_base.specs.declared.tag.Tag.{Tag}
 use Rattle.pk_base.specs.declared.entity.Entity.TheVariants as entity
-use Rattle.pk_base.specs.declared.refusal.Refusal.TheVariants.{IsOuter}
 use Rattle.pk_model.specs.Maps.{EntityMap, with_entity}
-use Rattle.entity_store.specs.Store.{StoreView}
-use Rattle.solid_model.specs.Items.{Shape, item_at, ◌with◌}
+use Rattle.solid_model.specs.Items.{Shape, item_at}
 use Rattle.solid_model.specs.Items.Item.{Face, Loop, Shell}
 use Rattle.solid_model.specs.Rings.{first_tag}
-use Rattle.solid_model.specs.Rows.{refuse_where, makes_one}
-use Rattle.solid_model.specs.Places.{PlacedLoop, loop_at, q_at}
 use Rattle.solid_model.specs.Links.{links}
 use Rattle.solid_model.specs.Shapes.{shape_of}
 use Rattle.solid_model.specs.Sound.{IsSound}
-use Rattle.solid_model.specs.Mfkrh.{mfkrh}
-use Rattle.solid_sound.proofs.Lookups.{put-same, put-other}
-use Rattle.solid_sound.proofs.Found.{same_or_other}
-use Rattle.solid_sound.proofs.RowKeeps.{IsWell, Keeps, well-shape}
-use Rattle.solid_sound.proofs.KeptRings.{asked_loop, face_of_class, face_in, in_face-is, apart, free_apart}
-use Rattle.solid_sound.proofs.KeptMfkrh.{mfkrh-keeps}
+use Rattle.solid_sound.proofs.shapes.Lookups.{put-same, put-other}
+use Rattle.solid_sound.proofs.shapes.Found.{same_or_other}
+use Rattle.solid_sound.proofs.rows.RowKeeps.{IsWell, Keeps, well-shape}
+use Rattle.solid_sound.proofs.rows.KeptRings.{apart, free_apart}
+use Rattle.solid_sound.proofs.rows.KeptMfkrh.{mfkrh-keeps}
 use Rattle.solid_edits.specs.Faces.{of_face, with_more}
-use Rattle.solid_edits.proofs.Going.{goes-on, goes-past}
 use Rattle.solid_calls.proofs.Represented.{Represents, represented, represents-sound}
 use Rattle.solid_edits.proofs.StaysRepresented.{IsShown, KeepsFins, are-shown, shown-by, stays-shown, loop-given}
 use Rattle.entity_store.proofs.FirstValues.{get_other, get_put}
-
--- the shape with the new face, which has the ring, and with one more handle
-abbrev pub with_face : Shape → Tag → Tag → List Tag → Option Tag → Tag → Tag → ℤ → Shape
-with_face S new l fins vertex shell body q =
-    S with (new, Face shell l) ∷ (l, Loop new fins vertex) ∷ (shell, Shell body (q +ℤ pos 1)) ∷ []
-
--- the ring that a call that goes was asked for, its shell, and what the row reaches
-pub record MakesFace (S : Shape) (l shell : Tag) : Type 0 where
-  pub face : Tag
-  pub fins : List Tag
-  pub vertex : Option Tag
-  pub ring_is : item_at S l ≡ Some (Loop face fins vertex)
-  pub body : Tag
-  pub q : ℤ
-  pub shell_is : item_at S shell ≡ Some (Shell body q)
-  pub row_is : mfkrh S l ≡ makes_one (λ new. with_face S new l fins vertex shell body q)
-
-pub makes : (S : Shape) → IsWell S → (l : Tag) (p : PlacedLoop) → loop_at S l ≡ Ok p → IsOk (mfkrh S l) → MakesFace S l p.shell
-makes S well l p at h =
-    let a = goes-on (loop_at S l) _ h in
-    let c = goes-past (refuse_where (same_tag l a.found.outer) (IsOuter l)) _ a.goes in
-    let both : Ok a.found ≡ Ok p = sym a.is ∙ at in
-    let same : a.found ≡ p = cc in
-    let x = asked_loop S l (item_at S l) a.found a.is in
-    let y = face_of_class (item_at S x.0) (well.sound.names.kinds l (Loop x.0 x.1 x.2) x.3).0.0 in
-    let F = face_in S well x.0 y.0 y.1 y.2 in
-    let shell_is : a.found.shell ≡ y.0 = sym (sym F.shell_of ∙ ap (λ (r : PlacedLoop). r.shell) x.4) in
-    let body_is : a.found.body ≡ F.body = sym (sym F.face_body ∙ ap (λ (r : PlacedLoop). r.body) x.4) in
-    let q_is : q_at S a.found.shell ≡ F.q = ap (q_at S) shell_is ∙ F.q_is in
-    let l_is = λ (new : Tag). in_face-is S l x.0 new x.1 x.2 x.3 in
-    let made : MakesFace S l y.0 = record {
-      face = x.0;
-      fins = x.1;
-      vertex = x.2;
-      ring_is = x.3;
-      body = F.body;
-      q = F.q;
-      shell_is = F.shell_is;
-      row_is = a.same ∙ c.same
-          ∙ (λ i. makes_one (λ new. S with (new, Face (shell_is i) l) ∷ (l, l_is new i) ∷ (shell_is i, Shell (body_is i) (q_is i +ℤ pos 1)) ∷ []));
-    } in
-    subst (MakesFace S l) (sym shell_is ∙ ap (λ (r : PlacedLoop). r.shell) same) made
+use Rattle.euler_make.proofs.MfkrhFound.{with_face, MakesFace}
 
 module _ (m : EntityMap) (sound : IsSound m) (l shell new : Tag) (x : MakesFace (shape_of m) l shell) (free : item_at (shape_of m) new ≡ None) where
   abbrev S : Shape
@@ -159,8 +111,3 @@ module _ (m : EntityMap) (sound : IsSound m) (l shell new : Tag) (x : MakesFace 
 
   pub face-made : counted ≡ links R
   face-made = represented R counted reached_well (are-shown R counted each)
-
--- what is found of the ring in a store that is lent
-pub makes-seen : (v s : StoreView) → v ≡ s → IsSound s.state.map → (l : Tag) (p : PlacedLoop) → loop_at (shape_of v.state.map) l ≡ Ok p → IsOk (mfkrh (shape_of s.state.map) l) → MakesFace (shape_of s.state.map) l p.shell
-makes-seen v s e sound l p at goes =
-    makes (shape_of s.state.map) (well-shape s.state.map sound) l p (subst (λ (w : StoreView). loop_at (shape_of w.state.map) l ≡ Ok p) e at) goes

@@ -1,4 +1,4 @@
--- mvfs: what the row reaches, and the map once the five parts are put.
+-- mvfs: the map that is reached, and that it is that of the shape of its row.
 use Rattle.std.proofs.Common.{◌≡◌, ◌≢◌, ⊎_elim, List, [], ◌∷◌, Some, None, refl, sym, ap, subst, ◌∙◌, arith}
 use Rattle.std.specs.Prelude.{pos, IsOk, Contains}
 use Rattle.std.specs.List.{AllByRecursion}
@@ -9,7 +9,7 @@ use Rattle.pk_base.specs.declared.entity.Triple.{Triple}
 use Rattle.pk_model.specs.Apart.{NoRepeats}
 use Rattle.pk_model.specs.Maps.{EntityMap, with_entity}
 use Rattle.pk_model.specs.Tags.{TagsAscend, tag_at}
-use Rattle.pk_model.proofs.TagLists.{ByRecursion-weaker}
+use Rattle.list_facts.proofs.Each.{ByRecursion-weaker, ByRecursion-left}
 use Rattle.solid_model.specs.Items.{Item, Shape, item_at, ◌with◌}
 use Rattle.solid_model.specs.Items.Item.{Body, Shell, Face, Loop, Vertex}
 use Rattle.solid_model.specs.Ranges.{is_coordinate, numbers_of, point_of, refuse_outside}
@@ -18,12 +18,12 @@ use Rattle.solid_model.specs.Links.{links}
 use Rattle.solid_model.specs.Shapes.{shape_of}
 use Rattle.solid_model.specs.Sound.{IsSound}
 use Rattle.solid_model.specs.Mvfs.{mvfs}
-use Rattle.solid_sound.proofs.Asked.{apart_at, free_item}
-use Rattle.solid_sound.proofs.Lookups.{Items, with-written, with-other}
-use Rattle.solid_sound.proofs.Found.{same_or_other}
-use Rattle.solid_sound.proofs.RowKeeps.{IsWell, Keeps, well-shape}
-use Rattle.solid_sound.proofs.KeptRings.{free_apart}
-use Rattle.solid_sound.proofs.KeptMvfs.{mvfs-keeps}
+use Rattle.solid_sound.proofs.lists.Neighbours.{NoneOf}
+use Rattle.solid_sound.proofs.rows.Asked.{free_item}
+use Rattle.solid_sound.proofs.shapes.Lookups.{Items, with-written, with-other}
+use Rattle.solid_sound.proofs.shapes.Found.{same_or_other}
+use Rattle.solid_sound.proofs.rows.RowKeeps.{IsWell, Keeps, well-shape}
+use Rattle.solid_sound.proofs.rows.KeptMvfs.{mvfs-keeps}
 use Rattle.solid_calls.specs.LinkedRings.{IsRing}
 use Rattle.solid_edits.specs.BareParts.{tags_of_parts, with_bare_body}
 use Rattle.solid_edits.specs.declared.bare_parts.BareParts.{BareParts}
@@ -31,6 +31,8 @@ use Rattle.solid_edits.proofs.Going.{goes-past}
 use Rattle.solid_calls.proofs.Represented.{Represents, represented, represents-sound}
 use Rattle.solid_edits.proofs.StaysRepresented.{IsShown, KeepsFins, are-shown, shown-by, stays-shown}
 use Rattle.entity_store.proofs.FirstValues.{get_other, get_put}
+use Rattle.solid_calls.proofs.Sizes.{apart-ascending, ascend-left}
+use Rattle.solid_sound.proofs.shapes.Edits.{live-none_of}
 
 -- the items of a body of these parts
 abbrev pub bare_items : Triple → Tag → Tag → Tag → Tag → Tag → Items
@@ -80,20 +82,8 @@ module _ (m : EntityMap) (sound : IsSound m) (at : Triple) (p : BareParts) (rest
   was : Represents S m
   was = represents-sound m sound
 
-  body_apart : AllByRecursion (λ t. p.body ≢ t) (p.shell ∷ p.face ∷ p.loop_ ∷ p.vertex ∷ [])
-  body_apart = (apart_at tags 0 1 ascend (omega arith) (omega arith), (apart_at tags 0 2 ascend (omega arith) (omega arith), (apart_at tags 0 3 ascend (omega arith) (omega arith), (apart_at tags 0 4 ascend (omega arith) (omega arith), tt))))
-
-  shell_apart : AllByRecursion (λ t. p.shell ≢ t) (p.face ∷ p.loop_ ∷ p.vertex ∷ [])
-  shell_apart = (apart_at tags 1 2 ascend (omega arith) (omega arith), (apart_at tags 1 3 ascend (omega arith) (omega arith), (apart_at tags 1 4 ascend (omega arith) (omega arith), tt)))
-
-  face_apart : AllByRecursion (λ t. p.face ≢ t) (p.loop_ ∷ p.vertex ∷ [])
-  face_apart = (apart_at tags 2 3 ascend (omega arith) (omega arith), (apart_at tags 2 4 ascend (omega arith) (omega arith), tt))
-
-  loop_apart : AllByRecursion (λ t. p.loop_ ≢ t) (p.vertex ∷ [])
-  loop_apart = (apart_at tags 3 4 ascend (omega arith) (omega arith), tt)
-
   once : NoRepeats (tags_of_parts p)
-  once = (body_apart, (shell_apart, (face_apart, (loop_apart, (tt, tt)))))
+  once = apart-ascending (tags_of_parts p) (ascend-left (tags_of_parts p) rest ascend)
 
   free_items : AllByRecursion (λ t. item_at S t ≡ None) tags
   free_items = ByRecursion-weaker _ _ (λ t e. free_item m sound t e) tags free
@@ -115,37 +105,34 @@ module _ (m : EntityMap) (sound : IsSound m) (at : Triple) (p : BareParts) (rest
 
   body_shown : IsShown R n5 p.body
   body_shown = shown-by R n5 p.body (Body p.shell) (written p.body _ (0, omega arith, refl))
-      (ends_2 p.body body_apart.0 body_apart.1.0 body_apart.1.1.0 body_apart.1.1.1.0 ∙ get_put m p.body _)
+      (ends_2 p.body once.0.0 once.0.1.0 once.0.1.1.0 once.0.1.1.1.0 ∙ get_put m p.body _)
 
   shell_shown : IsShown R n5 p.shell
   shell_shown = shown-by R n5 p.shell (Shell p.body (pos 1)) (written p.shell _ (1, omega arith, refl))
-      (ends_3 p.shell shell_apart.0 shell_apart.1.0 shell_apart.1.1.0 ∙ get_put n1 p.shell _)
+      (ends_3 p.shell once.1.0.0 once.1.0.1.0 once.1.0.1.1.0 ∙ get_put n1 p.shell _)
 
   face_shown : IsShown R n5 p.face
   face_shown = shown-by R n5 p.face (Face p.shell p.loop_) (written p.face _ (2, omega arith, refl))
-      (ends_4 p.face face_apart.0 face_apart.1.0 ∙ get_put n2 p.face _)
+      (ends_4 p.face once.1.1.0.0 once.1.1.0.1.0 ∙ get_put n2 p.face _)
 
   loop_shown : IsShown R n5 p.loop_
   loop_shown =
       let none : IsRing n5 [] = record { once = tt; linked = tt } in
       shown-by R n5 p.loop_ (Loop p.face [] (Some p.vertex)) (written p.loop_ _ (3, omega arith, refl))
-      (ends_5 p.loop_ loop_apart.0 ∙ get_put n3 p.loop_ _, none, tt)
+      (ends_5 p.loop_ once.1.1.1.0.0 ∙ get_put n3 p.loop_ _, none, tt)
 
   vertex_shown : IsShown R n5 p.vertex
   vertex_shown = shown-by R n5 p.vertex (Vertex p.body (point_of at)) (written p.vertex _ (4, omega arith, refl))
       (get_put n4 p.vertex _)
 
   abbrev IsNew : Tag → Type 0
-  IsNew t = AllByRecursion (λ u. t ≢ u) (tags_of_parts p)
+  IsNew t = NoneOf t (tags_of_parts p)
 
   elsewhere : (t : Tag) → IsNew t → (item_at R t ≡ item_at S t) × (get n5 t ≡ get m t)
   elsewhere t h = (with-other S xs t h, ends_2 t h.1.0 h.1.1.0 h.1.1.1.0 h.1.1.1.1.0 ∙ get_other m p.body (Some (entity.Body p.shell)) t h.0)
 
   live_apart : (t : Tag) (x : Item) → item_at S t ≡ Some x → IsNew t
-  live_apart t x e = (
-    free_apart S t p.body x free_items.0 e,
-    (free_apart S t p.shell x free_items.1.0 e, (free_apart S t p.face x free_items.1.1.0 e, (free_apart S t p.loop_ x free_items.1.1.1.0 e, (free_apart S t p.vertex x free_items.1.1.1.1.0 e, tt)))),
-  )
+  live_apart t x e = live-none_of S (tags_of_parts p) t x (ByRecursion-left (λ u. item_at S u ≡ None) (tags_of_parts p) rest free_items) e
 
   fins : KeepsFins S R m n5
   fins f mate edge vertex e = let other = elsewhere f (live_apart f _ e) in (other.0 ∙ e, other.1)

@@ -42,7 +42,7 @@ pub fn mef_need<L: Ledger>(
     ensures { NeedsAsRow store.now.state.map (Mef from to) result }
 {
     // The blocks bound how many fins there are.
-    store.blocks();
+    let _blocks = store.blocks();
     let u = fin_at(store, from, steps)?;
     let v = fin_at(store, to, steps)?;
     if u.loop_ != v.loop_ {
@@ -93,7 +93,7 @@ pub fn mef_do<L: Ledger>(
 {
     let store = rec.view();
     // Each live entity stands in an owned block.
-    store.blocks();
+    let _blocks = store.blocks();
     let Ok(u) = fin_at(store, from, steps) else {
         unreachable!()
     };

@@ -30,7 +30,7 @@ pub fn mekr_need<L: Ledger>(
     ensures { NeedsAsRow store.now.state.map (Mekr keep ring) result }
 {
     // There are few enough entities to count them.
-    store.blocks();
+    let _blocks = store.blocks();
     let u = end_at(store, keep, steps)?;
     let v = end_at(store, ring, steps)?;
     if u.face != v.face {
@@ -92,7 +92,7 @@ pub fn mekr_do<L: Ledger>(
     ensures same_store { rec.new.store.ghost_name ≡ rec.old.store.ghost_name }
 {
     // Each live entity stands in an owned block.
-    rec.view().blocks();
+    let _blocks = rec.view().blocks();
     let Ok(u) = end_at(rec.view(), keep, steps) else {
         unreachable!()
     };

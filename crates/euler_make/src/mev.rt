@@ -83,7 +83,7 @@ pub fn mev_do<L: Ledger>(
     ensures same_store { rec.new.store.ghost_name ≡ rec.old.store.ghost_name }
 {
     // Each live entity and its owner stand in owned blocks.
-    rec.view().blocks();
+    let _blocks = rec.view().blocks();
     let Ok(place) = end_at(rec.view(), end, steps) else {
         unreachable!()
     };

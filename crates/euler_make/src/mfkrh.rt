@@ -62,7 +62,7 @@ pub fn mfkrh_do<L: Ledger>(
     ensures same_store { rec.new.store.ghost_name ≡ rec.old.store.ghost_name }
 {
     // Its clauses say that the blocks of what is live are owned.
-    rec.view().blocks();
+    let _blocks = rec.view().blocks();
     let Ok(placed) = loop_at(rec.view(), ring, steps) else {
         unreachable!()
     };

@@ -5,12 +5,11 @@ ghost use Rattle.std.specs.List.{list_all};
 use entity_store::Steps;
 use modeller::Euler;
 use partition::Partition;
-use pk_base::{Act, Call, Fault, LAST_BLOCK, NoMemory, Refusal, Reply, Tag};
+use pk_base::{Act, Call, Fault, LAST_BLOCK, NoMemory, Reply, Tag};
 use std::alloc::Global;
 use std::process::Abort;
 use std::sync::ledger::Ledger;
 
-mod attribute;
 mod calls;
 mod check;
 mod dice;
@@ -18,8 +17,6 @@ mod kept;
 mod marks;
 mod operands;
 mod reading;
-mod rings;
-mod triangle;
 mod walk;
 
 /// A new partition 1, which thread 1 holds.
@@ -91,17 +88,4 @@ fn does<L: Ledger>(
 ) {
     let reply = act(rt, partition, Act::Call(call), steps);
     assert!(rt; matches!(reply, Ok(Reply::Done)));
-}
-
-fn refuses<L: Ledger>(
-    rt: &impl Abort,
-    partition: &mut Partition<Euler>,
-    call: Call,
-    expected: Refusal,
-    steps: &mut Steps<L>,
-) {
-    let Err(fault) = act(rt, partition, Act::Call(call), steps) else {
-        panic!(rt; "it was not refused");
-    };
-    assert_eq!(rt; fault, Fault::Refused(expected));
 }

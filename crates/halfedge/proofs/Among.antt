@@ -5,14 +5,14 @@ use Rattle.std.specs.List.{AllByRecursion}
 use Rattle.std.proofs.lemmas.List.Elements.{Contains-append_cases}
 use Rattle.pk_base.specs.declared.tag.Tag.{Tag}
 use Rattle.pk_model.specs.Maps.{EntityMap}
-use Rattle.pk_model.proofs.TagLists.{ByRecursion-at}
+use Rattle.list_facts.proofs.Each.{ByRecursion-at}
 use Rattle.entity_store.specs.Recording.{Recording}
 use Rattle.entity_store.specs.Store.{StoreView}
 use Rattle.solid_model.specs.Sound.{optional}
-use Rattle.solid_sound.proofs.Lists.{contains_cases, not_in_nil}
 use Rattle.solid_calls.specs.LinkedRings.{prev_at}
 use Rattle.solid_calls.specs.Room.{HasRoomForThese, PutsAmong}
 use Rattle.solid_calls.proofs.Room.{room-part, room-after, puts-then, puts-wider}
+use Rattle.list_facts.proofs.Elements.{not_in_nil, Contains-cases}
 use Rattle.halfedge.specs.Splices.{spliced}
 
 -- each of the second list stands in the first
@@ -24,7 +24,7 @@ has-none ts t k = absurd (not_in_nil t k)
 
 pub has-more : (ts : List Tag) (u : Tag) (us : List Tag) → Contains ts u → HasAll ts us → HasAll ts (u ∷ us)
 has-more ts u us first rest t k =
-    ⊎_elim (λ (e : u ≡ t). subst (Contains ts) e first) (λ (r : Contains us t). rest t r) (contains_cases u us t k)
+    ⊎_elim (λ (e : u ≡ t). subst (Contains ts) e first) (λ (r : Contains us t). rest t r) (Contains-cases u us t k)
 
 -- one by one
 pub has-each : (ts us : List Tag) → AllByRecursion (Contains ts) us → HasAll ts us

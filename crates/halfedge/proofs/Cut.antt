@@ -7,9 +7,10 @@ use Rattle.pk_model.specs.Apart.{NoRepeats}
 use Rattle.entity_store.specs.Store.{StoreView}
 use Rattle.std.specs.Prelude.{IfSome}
 use Rattle.solid_model.specs.Rings.{before, from, last_of}
-use Rattle.solid_sound.proofs.Lists.{head_or, contains_first, contains_later}
+use Rattle.solid_sound.proofs.lists.Neighbours.{head_or}
 use Rattle.solid_calls.specs.LinkedRings.{IsRing, IsInRing, Relinks, next_at, ring_at}
 use Rattle.solid_calls.specs.Room.{HasRoomForThese, PutsAmong}
+use Rattle.list_facts.proofs.Elements.{Contains-first, Contains-later}
 use Rattle.halfedge.specs.Splices.{Splices, spliced}
 use Rattle.halfedge.proofs.Among.{HasAll, has-each}
 use Rattle.halfedge.proofs.Ends.{has-head, has-last, two_and_ends, two-first, two-second, two-ends, two-other_ends, has-two}
@@ -74,8 +75,8 @@ module _ (s : StoreView) (f g : Tag) (p : PartedAt s.state.map f g) where
       let in_first = λ (t : Tag) (k : Contains (f ∷ p.ahead) t). Contains-append_left (f ∷ p.ahead) (g ∷ p.behind) t k in
       let in_second = λ (t : Tag) (k : Contains (g ∷ p.behind) t). Contains-append_right (f ∷ p.ahead) (g ∷ p.behind) t k in
       subst (λ ts. HasAll ts cut_fins) (sym (append-nil ring))
-      (has-two ring f g p.ahead p.behind (in_first f (contains_first f p.ahead)) (in_second g (contains_first g p.behind))
-      (λ t k. in_first t (contains_later f p.ahead t k)) (λ t k. in_second t (contains_later g p.behind t k)))
+      (has-two ring f g p.ahead p.behind (in_first f (Contains-first f p.ahead)) (in_second g (Contains-first g p.behind))
+      (λ t k. in_first t (Contains-later f p.ahead t k)) (λ t k. in_second t (Contains-later g p.behind t k)))
 
   pub cut-parted : (a : StoreView) → Stage cut_fins s ring_before s → Splices s.state.map f g a.state.map → PutsAmong (spliced s.state.map f g) s a → Stage cut_fins s rings_parted a
   cut-parted a h k puts = stage-two cut_fins s s f g p.ahead p.behind [] has-parts h a k puts

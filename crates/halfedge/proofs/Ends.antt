@@ -1,18 +1,24 @@
 -- The first and the last fin of runs.
-use Rattle.std.proofs.Common.{List, [], ◌∷◌, ◌++◌, refl, sym, subst, append-nil, arith}
+use Rattle.std.proofs.Common.{◌≤◌, List, [], ◌∷◌, ◌++◌, length, refl, sym, subst, append-nil, arith}
 use Rattle.std.specs.Prelude.{Contains}
 use Rattle.std.proofs.lemmas.List.Elements.{Contains-append_left, Contains-append_right}
 use Rattle.pk_base.specs.declared.tag.Tag.{Tag}
 use Rattle.solid_model.specs.Rings.{last_of}
-use Rattle.solid_sound.proofs.Lists.{head_or, contains_first, contains_later}
-use Rattle.solid_sound.proofs.Cycles.{last_of-in, last_of-append}
+use Rattle.solid_sound.proofs.lists.Neighbours.{head_or}
+use Rattle.solid_sound.proofs.lists.Cycles.{last_of-in, last_of-append}
 use Rattle.solid_calls.specs.LinkedRings.{ends_of}
+use Rattle.list_facts.proofs.Elements.{Contains-first, Contains-later}
 use Rattle.halfedge.proofs.Among.{HasAll, has-none, has-more, has-each, has-both}
 
 -- a run has its ends
 pub run-ends : (A : List Tag) → HasAll A (ends_of A)
 run-ends [] = has-none []
-run-ends (f ∷ A) = has-each (f ∷ A) (f ∷ last_of f A ∷ []) (contains_first f A, (last_of-in f A, tt))
+run-ends (f ∷ A) = has-each (f ∷ A) (f ∷ last_of f A ∷ []) (Contains-first f A, (last_of-in f A, tt))
+
+-- and they are two at most
+pub length-ends : (A : List Tag) → length (ends_of A) ≤ 2
+length-ends [] = omega arith
+length-ends (f ∷ A) = omega arith
 
 -- what has the ends of a run has what comes first and last behind f
 pub has-head : (ts : List Tag) (f : Tag) (A : List Tag) → Contains ts f → HasAll ts (ends_of A) → Contains ts (head_or f A)
@@ -39,13 +45,13 @@ two_and_ends f g A B = (f ∷ g ∷ ends_of A) ++ ends_of B
 
 module _ (f g : Tag) (A B : List Tag) where
   pub two-first : Contains (two_and_ends f g A B) f
-  two-first = contains_first f ((g ∷ ends_of A) ++ ends_of B)
+  two-first = Contains-first f ((g ∷ ends_of A) ++ ends_of B)
 
   pub two-second : Contains (two_and_ends f g A B) g
-  two-second = contains_later f ((g ∷ ends_of A) ++ ends_of B) g (contains_first g (ends_of A ++ ends_of B))
+  two-second = Contains-later f ((g ∷ ends_of A) ++ ends_of B) g (Contains-first g (ends_of A ++ ends_of B))
 
   pub two-ends : HasAll (two_and_ends f g A B) (ends_of A)
-  two-ends t k = contains_later f ((g ∷ ends_of A) ++ ends_of B) t (contains_later g (ends_of A ++ ends_of B) t (Contains-append_left (ends_of A) (ends_of B) t k))
+  two-ends t k = Contains-later f ((g ∷ ends_of A) ++ ends_of B) t (Contains-later g (ends_of A ++ ends_of B) t (Contains-append_left (ends_of A) (ends_of B) t k))
 
   pub two-other_ends : HasAll (two_and_ends f g A B) (ends_of B)
   two-other_ends t k = Contains-append_right (f ∷ g ∷ ends_of A) (ends_of B) t k

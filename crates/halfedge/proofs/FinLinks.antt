@@ -10,8 +10,8 @@ use Rattle.pk_model.specs.Tags.{owns}
 use Rattle.pk_model.specs.Maps.{EntityMap, with_entity}
 use Rattle.entity_store.specs.Store.{Stored, StoreView, IsHosted}
 use Rattle.entity_store.proofs.FirstValues.{get_put, get_other}
-use Rattle.solid_sound.proofs.Lists.{contains_first, contains_cases, not_in_nil}
 use Rattle.solid_calls.specs.LinkedRings.{as_fin, unlinked, in_loop, Relabels}
+use Rattle.list_facts.proofs.Elements.{not_in_nil, Contains-first, Contains-cases}
 use Rattle.halfedge.specs.Splices.{ChangesLinks, SetsNext, SetsPrev}
 
 -- the store's blocks are those of its entities and of their owners
@@ -22,7 +22,7 @@ pub hosts-viewed : (v s : StoreView) → v ≡ s → Hosts v.state → Hosts s.s
 hosts-viewed v s e h = subst (λ (x : StoreView). Hosts x.state) e h
 
 pub only_one : (f t : Tag) → Contains (f ∷ []) t → f ≡ t
-only_one f t k = ⊎_elim (λ (e : f ≡ t). e) (λ (n : Contains [] t). absurd (not_in_nil t n)) (contains_cases f [] t k)
+only_one f t k = ⊎_elim (λ (e : f ≡ t). e) (λ (n : Contains [] t). absurd (not_in_nil t n)) (Contains-cases f [] t k)
 
 -- a fin that stands in the store may be put again with other neighbours
 pub hosted-links : (s : Stored) (f l next prev mate edge vertex x y : Tag) → Hosts s → get s.map f ≡ Some (entity.Fin l next prev mate edge vertex) → IsHosted s.blocks f (entity.Fin l x y mate edge vertex)
@@ -67,5 +67,5 @@ module _ (m n : EntityMap) (f l next prev mate edge vertex : Tag) (is : get m f 
       let same : get n f ≡ option_map (in_loop to) (get m f) = now ∙ sym (ap (option_map (in_loop to)) is) in
       record {
         fins = λ t k. subst (λ (u : Tag). get n u ≡ option_map (in_loop to) (get m u)) (only_one f t k) same;
-        others = λ t out. ap (λ x. get x t) put ∙ get_other m f (Some (entity.Fin to next prev mate edge vertex)) t (λ e. out (subst (Contains (f ∷ [])) (sym e) (contains_first f [])));
+        others = λ t out. ap (λ x. get x t) put ∙ get_other m f (Some (entity.Fin to next prev mate edge vertex)) t (λ e. out (subst (Contains (f ∷ [])) (sym e) (Contains-first f [])));
       }

@@ -9,7 +9,7 @@ use Rattle.entity_store.specs.Store.{StoreView}
 use Rattle.solid_model.specs.Rings.{first_tag, last_of}
 use Rattle.solid_calls.specs.LinkedRings.{IsRing, IsInRing, Relinks, ring_of_any}
 use Rattle.solid_calls.specs.Room.{HasRoomForThese, PutsAmong}
-use Rattle.solid_calls.proofs.LinkedRings.{in-ring_starts}
+use Rattle.solid_calls.proofs.LinkedRings.{in-ring_starts, any_ring}
 use Rattle.halfedge.specs.Splices.{Splices, spliced}
 use Rattle.halfedge.proofs.Among.{HasAll, has-each}
 use Rattle.halfedge.proofs.Ends.{has-last, two_and_ends, two-first, two-second, two-ends, two-other_ends, has-two}
@@ -20,10 +20,6 @@ use Rattle.halfedge.proofs.Stages.{Stage, stage-start, stage-one, stage-as, stag
 pub first-of_ring : (m : EntityMap) (o : Option Tag) → IfSome o (IsInRing m) → first_tag (ring_of_any m o) ≡ o
 first-of_ring m None h = refl
 first-of_ring m (Some f) h = ap first_tag (in-ring_starts m f h)
-
-any_ring : (m : EntityMap) (o : Option Tag) → IfSome o (IsInRing m) → IsRing m (ring_of_any m o)
-any_ring m None h = record { once = tt; linked = tt }
-any_ring m (Some f) h = h.ring
 
 module _ (s : StoreView) (at ring : Option Tag) (out back : Tag) where
   abbrev pub A : List Tag

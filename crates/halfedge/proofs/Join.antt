@@ -6,11 +6,12 @@ use Rattle.pk_base.specs.declared.tag.Tag.{Tag}
 use Rattle.pk_model.specs.Apart.{NoRepeats}
 use Rattle.entity_store.specs.Store.{StoreView}
 use Rattle.solid_model.specs.Rings.{last_of}
-use Rattle.solid_sound.proofs.Lists.{head_or, contains_first, contains_later}
-use Rattle.solid_sound.proofs.Cycles.{last_of-append}
+use Rattle.solid_sound.proofs.lists.Neighbours.{head_or}
+use Rattle.solid_sound.proofs.lists.Cycles.{last_of-append}
 use Rattle.solid_calls.specs.LinkedRings.{IsRing, IsInRing, Relinks, next_at, ring_at}
 use Rattle.solid_calls.specs.Room.{HasRoomForThese, PutsAmong}
 use Rattle.solid_calls.proofs.LinkedRings.{in-ring_starts, ring-turned}
+use Rattle.list_facts.proofs.Elements.{Contains-first, Contains-later}
 use Rattle.halfedge.specs.Splices.{Splices, spliced}
 use Rattle.halfedge.proofs.Among.{HasAll, has-each}
 use Rattle.halfedge.proofs.Ends.{has-head, has-last, has-head_both, has-last_both, two_and_ends, two-first, two-second, two-ends, two-other_ends, has-two}
@@ -90,8 +91,8 @@ module _ (s : StoreView) (x y : Tag) (in_x : IsInRing s.state.map x) (in_y : IsI
   has_fins =
       let both = (x ∷ P) ++ y ∷ Q in
       subst (λ ts. HasAll ((x ∷ P) ++ ts) join_fins) (sym (append-nil (y ∷ Q)))
-      (has-two both x y P Q (Contains-append_left (x ∷ P) (y ∷ Q) x (contains_first x P)) (Contains-append_right (x ∷ P) (y ∷ Q) y (contains_first y Q))
-      (λ t k. Contains-append_left (x ∷ P) (y ∷ Q) t (contains_later x P t k)) (λ t k. Contains-append_right (x ∷ P) (y ∷ Q) t (contains_later y Q t k)))
+      (has-two both x y P Q (Contains-append_left (x ∷ P) (y ∷ Q) x (Contains-first x P)) (Contains-append_right (x ∷ P) (y ∷ Q) y (Contains-first y Q))
+      (λ t k. Contains-append_left (x ∷ P) (y ∷ Q) t (Contains-later x P t k)) (λ t k. Contains-append_right (x ∷ P) (y ∷ Q) t (Contains-later y Q t k)))
 
   pub join-joined : (a : StoreView) → Stage join_fins s rings_before s → Splices s.state.map x y a.state.map → PutsAmong (spliced s.state.map x y) s a → Stage join_fins s ring_joined a
   join-joined a h k puts = stage-one join_fins s s x y P Q [] has-parts h a k puts

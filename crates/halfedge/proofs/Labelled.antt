@@ -10,12 +10,13 @@ use Rattle.pk_model.specs.Tags.{owns}
 use Rattle.pk_model.specs.Apart.{NoRepeats}
 use Rattle.pk_model.specs.Maps.{EntityMap}
 use Rattle.entity_store.specs.Store.{Stored, StoreView}
-use Rattle.solid_sound.proofs.Lists.{head_or, contains_cases}
-use Rattle.solid_sound.proofs.Reading.{not_before}
+use Rattle.solid_sound.proofs.lists.Neighbours.{head_or}
+use Rattle.solid_sound.proofs.shapes.Reading.{not_before}
 use Rattle.solid_calls.specs.LinkedRings.{IsInRing, Relabels, as_fin, in_loop, next_at, ring_at}
 use Rattle.solid_calls.specs.Room.{HasRoomForThese, PutsAmong}
 use Rattle.solid_calls.proofs.LinkedRings.{in-ring_starts}
 use Rattle.solid_calls.proofs.Room.{room-part, puts-wider}
+use Rattle.list_facts.proofs.Elements.{Contains-cases}
 use Rattle.halfedge.proofs.Among.{has-one, puts-both, room-next}
 use Rattle.halfedge.proofs.RingFins.{starts-ring}
 use Rattle.halfedge.proofs.FinLinks.{only_one}
@@ -34,7 +35,7 @@ relabels-more a b c xs ys to one other apart = record {
 -- the fin at which the walk stands is not passed
 unpassed : (f : Tag) (rest : List Tag) (here : Tag) (w : Walked f rest here) → NoRepeats (f ∷ rest) → here ≢ f → ¬ (Contains (f ∷ w.passed) here)
 unpassed f rest here w once other k =
-    ⊎_elim {C = ⊥} (λ (e : f ≡ here). other (sym e)) (λ (r : Contains w.passed here). at w.ahead w.is w.here_is r) (contains_cases f w.passed here k)
+    ⊎_elim {C = ⊥} (λ (e : f ≡ here). other (sym e)) (λ (r : Contains w.passed here). at w.ahead w.is w.here_is r) (Contains-cases f w.passed here k)
   where
     at : (ahead : List Tag) → rest ≡ w.passed ++ ahead → here ≡ head_or f ahead → ¬ (Contains w.passed here)
     at [] is e = absurd (other e)

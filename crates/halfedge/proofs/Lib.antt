@@ -12,4 +12,3 @@ pub mod Join
 pub mod Cut
 pub mod Walks
 pub mod Labelled
-pub mod CheckedRings

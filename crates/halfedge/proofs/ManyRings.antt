@@ -7,13 +7,15 @@ use Rattle.std.proofs.lemmas.List.Elements.{Contains-append_left, Contains-appen
 use Rattle.pk_base.specs.declared.tag.Tag.{Tag}
 use Rattle.pk_model.specs.Apart.{NoRepeats}
 use Rattle.pk_model.specs.Maps.{EntityMap}
-use Rattle.pk_model.proofs.TagLists.{ByRecursion-contains, NoRepeats-between}
+use Rattle.pk_model.proofs.TagLists.{NoRepeats-between}
 use Rattle.solid_model.specs.Rings.{last_of, next_in, previous_in, neighbours, neighbours_from}
-use Rattle.solid_sound.proofs.Lists.{head_or, neighbours-in, contains_first, times, times-append, times-once, once-times}
-use Rattle.solid_sound.proofs.Cycles.{steps, step_or_last, step-in, last-in, merge-first, merge-second, merge-cases, last_of-append}
-use Rattle.solid_sound.proofs.Turned.{Turned, turned-times}
+use Rattle.solid_sound.proofs.lists.Neighbours.{head_or, neighbours-in, times, times-append, times-once, once-times}
+use Rattle.solid_sound.proofs.lists.Cycles.{steps, step_or_last, step-in, last-in, merge-first, merge-second, merge-cases, last_of-append}
+use Rattle.solid_sound.proofs.lists.Turned.{Turned, turned-times}
 use Rattle.solid_calls.specs.LinkedRings.{AreLinked, IsRing, prev_at}
 use Rattle.solid_calls.proofs.LinkedRings.{next-told, linked-at, first-links, ring-turned}
+use Rattle.list_facts.proofs.Elements.{Contains-first}
+use Rattle.list_facts.proofs.Each.{ByRecursion-contains}
 use Rattle.halfedge.specs.Splices.{Joins, Splices}
 use Rattle.halfedge.proofs.Joined.{linked-joined}
 
@@ -218,7 +220,7 @@ pub unhooked : (m n : EntityMap) (f : Tag) (A : List Tag) (rings : List (List Ta
 unhooked m n f [] rings s h =
     let before_f : s.before_f ≡ f = same_Some s.before_f f (sym s.f_was ∙ (first-links m f [] h.each.0).1) in
     let before_g : s.before_g ≡ f = same_Some s.before_g f (sym s.g_was ∙ (first-links m f [] h.each.0).1) in
-    let alone = contains_first (f, f) (all_neighbours rings) in
+    let alone = Contains-first (f, f) (all_neighbours rings) in
     let still = joined-twice m s.between n f f f f (subst (λ t. Joins m t f s.between) before_f s.one) (subst (λ t. Joins s.between t f n) before_g s.other)
     ((f ∷ []) ∷ rings) h.once alone alone (λ p k. inr (inr (rings-linked m ((f ∷ []) ∷ rings) h.each p k))) in
     record { once = still.once; each = (still.each.0, (record { once = tt; linked = tt }, still.each.1)) }

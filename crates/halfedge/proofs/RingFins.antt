@@ -5,15 +5,16 @@ use Rattle.std.proofs.lemmas.Option.{same_Some}
 use Rattle.pk_base.specs.declared.tag.Tag.{Tag}
 use Rattle.pk_model.specs.Maps.{EntityMap}
 use Rattle.solid_model.specs.Rings.{last_of}
-use Rattle.solid_sound.proofs.Lists.{head_or, contains_first, contains_later}
-use Rattle.solid_sound.proofs.Cycles.{last_of-in}
+use Rattle.solid_sound.proofs.lists.Neighbours.{head_or}
+use Rattle.solid_sound.proofs.lists.Cycles.{last_of-in}
 use Rattle.solid_calls.specs.LinkedRings.{next_at, prev_at, IsRing, ring_at, IsInRing}
 use Rattle.solid_calls.proofs.LinkedRings.{in-ring_of, in-ring_starts, first-links}
+use Rattle.list_facts.proofs.Elements.{Contains-first, Contains-later}
 
 -- the first of a list, or f, stands in the list with f
 pub head_or-in : (f : Tag) (fins : List Tag) → Contains (f ∷ fins) (head_or f fins)
-head_or-in f [] = contains_first f []
-head_or-in f (g ∷ fins) = contains_later f (g ∷ fins) g (contains_first g fins)
+head_or-in f [] = Contains-first f []
+head_or-in f (g ∷ fins) = Contains-later f (g ∷ fins) g (Contains-first g fins)
 
 -- the ring from a fin on begins with it
 pub starts-ring : (m : EntityMap) (f : Tag) → IsInRing m f → IsRing m (f ∷ drop 1 (ring_at m f))

@@ -6,8 +6,8 @@ use Rattle.pk_base.specs.declared.tag.Tag.{Tag}
 use Rattle.pk_model.specs.Apart.{NoRepeats}
 use Rattle.entity_store.specs.Store.{StoreView}
 use Rattle.solid_model.specs.Rings.{before, from, last_of}
-use Rattle.solid_sound.proofs.Lists.{contains_first}
-use Rattle.solid_sound.proofs.Cycles.{last_of-in}
+use Rattle.list_facts.proofs.Elements.{Contains-first}
+use Rattle.solid_sound.proofs.lists.Cycles.{last_of-in}
 use Rattle.solid_calls.specs.LinkedRings.{IsRing, IsInRing, Relinks, ring_at, ends_of}
 use Rattle.solid_calls.specs.Room.{HasRoomForThese, PutsAmong}
 use Rattle.halfedge.specs.Splices.{Splices, spliced}
@@ -54,8 +54,8 @@ module _ (s : StoreView) (f g x y : Tag) (p : PartedAt s.state.map f g) where
         (
           Contains-append_right ring (x ∷ y ∷ []) y (1, omega arith, refl),
           (
-            in_first f (contains_first f p.ahead),
-            (in_first (last_of f p.ahead) (last_of-in f p.ahead), (in_second g (contains_first g p.behind), (in_second (last_of g p.behind) (last_of-in g p.behind), tt))),
+            in_first f (Contains-first f p.ahead),
+            (in_first (last_of f p.ahead) (last_of-in f p.ahead), (in_second g (Contains-first g p.behind), (in_second (last_of g p.behind) (last_of-in g p.behind), tt))),
           ),
         ),
       )

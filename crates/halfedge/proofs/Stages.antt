@@ -9,12 +9,13 @@ use Rattle.pk_model.specs.Maps.{EntityMap}
 use Rattle.std.proofs.lemmas.List.Elements.{Contains-append_cases}
 use Rattle.entity_store.specs.Store.{StoreView}
 use Rattle.solid_model.specs.Rings.{before, from, first_tag, last_of}
-use Rattle.solid_sound.proofs.Lists.{head_or, contains_first, not_in_nil}
-use Rattle.solid_sound.proofs.Cycles.{cut-at}
+use Rattle.solid_sound.proofs.lists.Neighbours.{head_or}
+use Rattle.solid_sound.proofs.lists.Cycles.{cut-at}
 use Rattle.solid_calls.specs.LinkedRings.{IsRing, IsInRing, Relinks, next_at, prev_at, ring_at, ends_of, unlinked}
 use Rattle.solid_calls.specs.Room.{HasRoomForThese, PutsAmong}
 use Rattle.solid_calls.proofs.LinkedRings.{in-ring_of, in-ring_starts, first-links}
 use Rattle.solid_calls.proofs.Room.{room-after, room-part, puts-none, puts-then, puts-wider}
+use Rattle.list_facts.proofs.Elements.{not_in_nil, Contains-first}
 use Rattle.halfedge.specs.Splices.{Splices, spliced}
 use Rattle.halfedge.proofs.Among.{HasAll, has-each, has-spliced, spliced-is}
 use Rattle.halfedge.proofs.ManyRings.{all_fins, AreRings, before-first, before-second, spliced-one, spliced-two, unhooked}
@@ -84,10 +85,10 @@ stage-as ts old now rings others h are = record { room = h.room; are = are; reac
 module _ (ts : List Tag) (old now : StoreView) where
   -- the first fin of the first ring, and of the second
   pub in-first : (f : Tag) (A : List Tag) (rings : List (List Tag)) → Stage ts old ((f ∷ A) ∷ rings) now → IsInRing now.state.map f
-  in-first f A rings h = in-ring_of now.state.map (f ∷ A) f h.are.each.0 (contains_first f A)
+  in-first f A rings h = in-ring_of now.state.map (f ∷ A) f h.are.each.0 (Contains-first f A)
 
   pub in-second : (P : List Tag) (g : Tag) (B : List Tag) (rings : List (List Tag)) → Stage ts old (P ∷ (g ∷ B) ∷ rings) now → IsInRing now.state.map g
-  in-second P g B rings h = in-ring_of now.state.map (g ∷ B) g h.are.each.1.0 (contains_first g B)
+  in-second P g B rings h = in-ring_of now.state.map (g ∷ B) g h.are.each.1.0 (Contains-first g B)
 
 module _ (ts : List Tag) (old now : StoreView) (f g : Tag) (A B : List Tag) (rings : List (List Tag)) (has : HasAll ts (f ∷ g ∷ last_of f A ∷ last_of g B ∷ [])) where
   has-first : Contains ts f

@@ -10,13 +10,14 @@ use Rattle.pk_base.specs.declared.tag.Tag.{Tag}
 use Rattle.pk_base.specs.Blocks.{tag}
 use Rattle.pk_model.specs.Apart.{NoRepeats}
 use Rattle.pk_model.specs.Maps.{EntityMap}
-use Rattle.pk_model.proofs.TagLists.{ByRecursion-at}
+use Rattle.list_facts.proofs.Each.{ByRecursion-at}
 use Rattle.solid_model.specs.Rings.{from, first_tag, lesser, least_of, from_least, neighbours}
-use Rattle.solid_sound.proofs.Lists.{head_or, contains_first, contains_later, neighbour_of, parts_at, not_same}
-use Rattle.solid_sound.proofs.Cycles.{least, written-first}
-use Rattle.solid_sound.proofs.Reading.{not_before}
+use Rattle.solid_sound.proofs.lists.Neighbours.{head_or, neighbour_of, parts_at, not_same}
+use Rattle.solid_sound.proofs.lists.Cycles.{least, written-first}
+use Rattle.solid_sound.proofs.shapes.Reading.{not_before}
 use Rattle.solid_calls.specs.LinkedRings.{IsRing, IsInRing, next_at, ring_at}
 use Rattle.solid_calls.proofs.LinkedRings.{in-ring_of, in-ring_starts, linked-at, ring-fits}
+use Rattle.list_facts.proofs.Elements.{Contains-first, Contains-later}
 use Rattle.halfedge.proofs.RingFins.{starts-ring, in-ring_next}
 
 -- Of the fins behind the first one these are passed, and these are to come. Behind them the first
@@ -45,7 +46,7 @@ all-passed first rest here w once back = at_end w.passed w.ahead w.is (sym w.her
   where
     at_end : (passed ahead : List Tag) → rest ≡ passed ++ ahead → head_or first ahead ≡ first → rest ≡ passed
     at_end passed [] is e = is ∙ append-nil passed
-    at_end passed (h ∷ more) is e = absurd (not_first first rest once (subst (λ ts. Contains ts first) (sym is) (Contains-append_right passed (h ∷ more) first (subst (Contains (h ∷ more)) e (contains_first h more)))))
+    at_end passed (h ∷ more) is e = absurd (not_first first rest once (subst (λ ts. Contains ts first) (sym is) (Contains-append_right passed (h ∷ more) first (subst (Contains (h ∷ more)) e (Contains-first h more)))))
 
 -- One more step: the fin that is passed stands in the ring, and one fin less is to come.
 pub record Further (first : Tag) (rest : List Tag) (here next : Tag) (w : Walked first rest here) : Type 0 where
@@ -83,8 +84,8 @@ to-come first rest here w once = come w.passed w.ahead w.is w.here_is
     from-none : (t : Tag) (ts : List Tag) → ¬ (Contains ts t) → from t ts ≡ []
     from-none t [] out = refl
     from-none t (u ∷ ts) out =
-        ap (λ b. cond b (u ∷ ts) (from t ts)) (not_same u t (λ e. out (subst (Contains (u ∷ ts)) e (contains_first u ts))))
-        ∙ from-none t ts (λ k. out (contains_later u ts t k))
+        ap (λ b. cond b (u ∷ ts) (from t ts)) (not_same u t (λ e. out (subst (Contains (u ∷ ts)) e (Contains-first u ts))))
+        ∙ from-none t ts (λ k. out (Contains-later u ts t k))
 
     come : (passed ahead : List Tag) → rest ≡ passed ++ ahead → here ≡ head_or first ahead → from here rest ≡ ahead
     come passed [] is e = ap (λ t. from t rest) e ∙ from-none first rest (not_first first rest once)
@@ -160,8 +161,8 @@ module _ (m : EntityMap) (f : Tag) (h : IsInRing m f) where
   walk-in here w = at w.ahead w.is w.here_is
     where
       at : (ahead : List Tag) → rest_of m f ≡ w.passed ++ ahead → here ≡ head_or f ahead → Contains (f ∷ rest_of m f) here
-      at [] is e = subst (Contains (f ∷ rest_of m f)) (sym e) (contains_first f (rest_of m f))
-      at (g ∷ more) is e = subst (Contains (f ∷ rest_of m f)) (sym e) (contains_later f (rest_of m f) g (subst (λ ts. Contains ts g) (sym is) (Contains-append_right w.passed (g ∷ more) g (contains_first g more))))
+      at [] is e = subst (Contains (f ∷ rest_of m f)) (sym e) (Contains-first f (rest_of m f))
+      at (g ∷ more) is e = subst (Contains (f ∷ rest_of m f)) (sym e) (Contains-later f (rest_of m f) g (subst (λ ts. Contains ts g) (sym is) (Contains-append_right w.passed (g ∷ more) g (Contains-first g more))))
 
   pub walk-live : (here : Tag) → Walked f (rest_of m f) here → IsSome (next_at m here)
   walk-live here w = in-ring_next m here (in-ring_of m (f ∷ rest_of m f) here ring (walk-in here w))

@@ -45,7 +45,7 @@ fn set_loop<L: Ledger>(rec: &mut Recorder<'_>, fin: Tag, to: Tag, steps: &mut St
     ensures same_store { rec.new.store.ghost_name ≡ rec.old.store.ghost_name }
 {
     // A fin stands in an owned block.
-    rec.view().blocks();
+    let _blocks = rec.view().blocks();
     let Some(
         Entity::Fin {
             next,

@@ -12,5 +12,3 @@ mod labels;
 mod links;
 mod read;
 mod rings;
-#[cfg(test)]
-mod tests;

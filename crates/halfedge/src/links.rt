@@ -43,7 +43,7 @@ fn set_next<L: Ledger>(rec: &mut Recorder<'_>, fin: Tag, to: Tag, steps: &mut St
     ensures same_store { rec.new.store.ghost_name ≡ rec.old.store.ghost_name }
 {
     // A fin and its loop stand in owned blocks.
-    rec.view().blocks();
+    let _blocks = rec.view().blocks();
     let Some(
         Entity::Fin {
             loop_,
@@ -79,7 +79,7 @@ fn set_prev<L: Ledger>(rec: &mut Recorder<'_>, fin: Tag, to: Tag, steps: &mut St
     ensures same_store { rec.new.store.ghost_name ≡ rec.old.store.ghost_name }
 {
     // A fin and its loop stand in owned blocks.
-    rec.view().blocks();
+    let _blocks = rec.view().blocks();
     let Some(
         Entity::Fin {
             loop_,

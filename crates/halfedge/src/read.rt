@@ -24,7 +24,7 @@ pub fn ring_len<L: Ledger>(store: &Store, fin: Tag, steps: &mut Steps<L>) -> usi
     ensures { result ≡ length (ring_at store.now.state.map fin) }
 {
     // A ring has no more fins than there are entities.
-    store.len();
+    let _len = store.len();
     let mut len = 1;
     let mut here = ring_next(store, fin, steps);
     while here != fin {

@@ -11,7 +11,7 @@ use Rattle.pk_base.specs.declared.refusal.Refusal.TheVariants.{NoSuchTag}
 use Rattle.pk_model.specs.Maps.{EntityMap}
 use Rattle.pk_model.specs.Modelling.{Modelling, MayBeAsked, IsModeller, Outcome}
 use Rattle.solid_model.specs.Euler as all
-use Rattle.solid_sound.proofs.EveryCall as every
+use Rattle.solid_sound.proofs.rows.EveryCall as every
 use Rattle.modeller.specs.Only.{only}
 use Rattle.modeller.specs.Euler.{is_done, euler}
 

@@ -16,14 +16,16 @@ use Rattle.pk_model.specs.Maps.{EntityMap, tag_cmp}
 use Rattle.pk_model.specs.State.{Mark, PartitionState}
 use Rattle.pk_model.specs.Modelling.{Modelling}
 use Rattle.pk_model.specs.Step.{short, Reach, reach_of, call_reaches, goto_reaches}
-use Rattle.pk_model.proofs.TagLists.{tag_total, tag_antisymmetric, tag_at-next_tags, ByRecursion-weaker}
+use Rattle.pk_model.proofs.TagLists.{tag_total, tag_antisymmetric, tag_at-next_tags}
 use Rattle.pk_model.proofs.Steps.{enough_tags, reach_of-call, reach_of-goto}
 use Rattle.entity_store.specs.Store.{IsHosted, StoreView}
+use Rattle.list_facts.proofs.Each.{ByRecursion-weaker}
+use Rattle.pk_model.proofs.Keys.{true_from_T}
 use Rattle.partition.specs.MarkCopy.{IsCopy, mark_of}
 use Rattle.partition.specs.Goes.{Made, Went}
 use Rattle.partition.specs.Contents.{state_of}
 use Rattle.partition.specs.declared.marks.MarkCopy.{MarkCopy}
-use Rattle.entity_store.proofs.Live.{all_found, true_of}
+use Rattle.entity_store.proofs.Live.{all_found}
 
 -- a call that is not short has tags enough
 pub room_for_call : (K : Modelling) (s : PartitionState) (c : Call) → short K s (act.Call c) ≡ 0 → K.cost s.now c ≤ 64 * length s.blocks - s.used
@@ -74,6 +76,6 @@ from_entries-entries m = same_map tag_total tag_antisymmetric _ m (λ q. get-fro
 -- what is copied of a store, whose entities are hosted, is a copy
 pub copied : (blocks : List ℕ) (m : EntityMap) (copy : MarkCopy) → copy.entities.items ≡ entries m → ((t : Tag) (e : Entity) → get m t ≡ Some e → IsHosted blocks t e) → IsCopy blocks copy
 copied blocks m copy same hosted =
-    let sorted = true_of (is_sorted tag_cmp (entries m)) (entries_sorted m) in
+    let sorted = true_from_T (is_sorted tag_cmp (entries m)) (entries_sorted m) in
     let each = ByRecursion-weaker _ (λ p. IsHosted blocks p.0 p.1) (λ p f. hosted p.0 p.1 f) (entries m) (all_found m) in
     record { sorted = ap (is_sorted tag_cmp) same ∙ sorted; hosted = subst (AllByRecursion (λ p. IsHosted blocks p.0 p.1)) (sym same) each }

@@ -1,15 +1,11 @@
 -- The next tags of a partition are owned.
-use Rattle.std.proofs.Common.{ℕ, zero, suc, List, [], ◌∷◌, drop, take}
+use Rattle.std.proofs.Common.{ℕ, List, take}
 use Rattle.std.specs.Prelude.{IsTrue}
 use Rattle.std.specs.List.{AllByRecursion}
 use Rattle.pk_base.specs.declared.tag.Tag.{Tag}
 use Rattle.pk_model.specs.Tags.{owns, next_tags, tags_of}
-use Rattle.pk_model.proofs.TagLists.{ByRecursion-contains, ByRecursion-take, Contains-owns}
-
-ByRecursion-drop : {X : Type 0} (P : X → Type 0) (n : ℕ) (xs : List X) → AllByRecursion P xs → AllByRecursion P (drop n xs)
-ByRecursion-drop P zero xs h = h
-ByRecursion-drop P (suc n) [] h = h
-ByRecursion-drop P (suc n) (x ∷ xs) h = ByRecursion-drop P n xs h.1
+use Rattle.pk_model.proofs.TagLists.{Contains-owns}
+use Rattle.list_facts.proofs.Each.{ByRecursion-contains, ByRecursion-take, ByRecursion-drop}
 
 pub owns_next : (blocks : List ℕ) (used n : ℕ) → AllByRecursion (λ t. IsTrue (owns blocks t)) (take n (next_tags blocks used))
 owns_next blocks used n =

@@ -11,7 +11,7 @@ use Rattle.pk_model.specs.Modelling.{Modelling, IsModeller}
 use Rattle.pk_model.specs.Step.{short, step, Stepped, without_answer}
 use Rattle.pk_model.specs.Replay.{replay}
 use Rattle.pk_model.proofs.Steps.{holder_holds}
-use Rattle.pk_model.proofs.TagLists.{ByRecursion-weaker}
+use Rattle.list_facts.proofs.Each.{ByRecursion-weaker}
 use Rattle.pk_model.proofs.TagsTaken.{replay-kept}
 use Rattle.entity_store.specs.Store.{IsHosted}
 use Rattle.entity_store.proofs.KeptSlots.{hosted_more}

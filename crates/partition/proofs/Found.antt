@@ -14,8 +14,9 @@ use Rattle.pk_base.specs.declared.entity.Entity.{Entity}
 use Rattle.pk_base.specs.declared.entity.Entity.TheVariants.{Body}
 use Rattle.pk_base.specs.Blocks.{tag}
 use Rattle.pk_model.specs.Maps.{tag_cmp}
-use Rattle.pk_model.proofs.TagLists.{tag_total, tag_antisymmetric, ties_no_other, ByRecursion-get_or}
+use Rattle.pk_model.proofs.TagLists.{tag_total, tag_antisymmetric, ties_no_other}
 use Rattle.entity_store.proofs.Live.{each_found}
+use Rattle.list_facts.proofs.Each.{ByRecursion-get_or}
 
 -- no entity with the tag, at all places
 none_at : (q : Tag) (ps : List (Tag × Entity)) → ((k : ℕ) (d : Tag × Entity) → k < length ps → q ≢ (get_or ps k d).0) → find tag_cmp q ps ≡ None

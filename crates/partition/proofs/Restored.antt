@@ -10,8 +10,9 @@ use Rattle.pk_base.specs.declared.tag.Tag.{Tag}
 use Rattle.pk_base.specs.declared.entity.Entity.{Entity}
 use Rattle.pk_model.specs.Tags.{owns}
 use Rattle.pk_model.specs.Maps.{EntityMap, tag_cmp, gone_tags}
-use Rattle.pk_model.proofs.TagLists.{tag_total, tag_antisymmetric, ByRecursion-contains, same_from_tie}
+use Rattle.pk_model.proofs.TagLists.{tag_total, tag_antisymmetric, same_from_tie}
 use Rattle.entity_store.specs.Store.{IsHosted}
+use Rattle.list_facts.proofs.Each.{ByRecursion-contains}
 use Rattle.partition.specs.Copies.{with_all, without_all}
 use Rattle.entity_store.proofs.Live.{not_tied, ties_with_one}
 

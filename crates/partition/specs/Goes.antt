@@ -22,7 +22,8 @@ pub record Went (old : Stored) (marks : List Mark) (m : Tag) (lists : Lists)
   pub differs : lists ≡ diff old.map mark.map
   pub store : new ≡ record old { map = mark.map }
 
--- it went to a live mark, or was refused so and changed nothing; for want of memory nothing changed
+-- it went to a live mark, or was refused so and changed nothing, or memory ran out and nothing
+-- changed
 abbrev pub Goes : Stored → List Mark → Tag → Result (Result Lists Refusal) NoMemory
     → Stored → Type 0
 Goes old marks m (Ok (Ok lists)) new = Went old marks m lists new
@@ -38,7 +39,7 @@ pub record Made (K : Modelling) (old : Stored) (used : ℕ) (c : Call) (reply : 
   pub takes : taken ≡ K.cost old.map c
   pub store : new ≡ record old { map = outcome.map }
 
--- it was done, or was refused so and changed nothing; for want of memory nothing changed
+-- it was done, or was refused so and changed nothing, or memory ran out and nothing changed
 abbrev pub Performs : Modelling → Stored → ℕ → Call → Result (Result (Reply × ℕ) Refusal) NoMemory
     → Stored → Type 0
 Performs K old used c (Ok (Ok r)) new = Made K old used c r.0 r.1 new

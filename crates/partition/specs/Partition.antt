@@ -58,7 +58,7 @@ pub record Appends (K : Modelling) (old : PartitionView) (e : Entry)
   pub steps : step K old.state e ≡ Some (record { state = new.state; answer = answer })
   pub journal : new.journal ≡ old.journal ++ e ∷ []
 
--- The holder's act was done with this answer, a reply or a refusal. For want of memory nothing
+-- The holder's act was done with this answer, a reply or a refusal. Where memory ran out, nothing
 -- changed.
 abbrev pub Answers : Modelling → PartitionView → Act → Result Reply Fault → PartitionView → Type 0
 Answers K old a (Ok r) new = Appends K old (Did (holder_of old) a) (Some (Ok r)) new

@@ -13,7 +13,7 @@ use std::alloc::Global;
 use std::sync::ledger::Ledger;
 
 /// Brings the store to what a live mark stands for, and answers how that differs from what it left.
-/// A refusal or want of memory leaves the store.
+/// The store is left as it is by a refusal, and where memory runs out.
 pub(crate) fn go<L: Ledger>(
     alloc: Global,
     store: &mut Store,

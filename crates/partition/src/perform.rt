@@ -9,8 +9,8 @@ use std::alloc::Global;
 use std::sync::ledger::Ledger;
 
 /// Has a modeller carry a call out on the store, with the tags of its blocks after the first
-/// `used`, and answers how many it took. All memory is taken before the first change. A refusal or
-/// want of memory leaves the store.
+/// `used`, and answers how many it took. All memory is taken before the first change. The store is
+/// left as it is by a refusal, and where memory runs out.
 pub(crate) fn perform<K: Modeller, L: Ledger>(
     alloc: Global,
     kind: &K,

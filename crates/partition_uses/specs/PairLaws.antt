@@ -16,8 +16,9 @@ use Rattle.pk_model.specs.Tags.{TagsAscend}
 use Rattle.pk_model.specs.Maps.{EntityMap, tag_cmp}
 use Rattle.pk_model.specs.Modelling.{Outcome, IsModeller}
 use Rattle.pk_model.specs.VertexBodies.{IsClosed}
-use Rattle.pk_model.proofs.TagLists.{ByRecursion-weaker, tag_total, tag_antisymmetric, ties_itself}
+use Rattle.pk_model.proofs.TagLists.{tag_total, tag_antisymmetric, ties_itself}
 use Rattle.pk_model.proofs.VertexModeller.{insert_live}
+use Rattle.list_facts.proofs.Each.{ByRecursion-weaker}
 use Rattle.partition_uses.specs.PairBodies.{makes_pair, with_pair, pair_of, pair_step, pair_cost, pair_bodies}
 
 -- ---- what is found after an insert

@@ -8,10 +8,8 @@ use std::process::Abort;
 use std::sync::ledger::Ledger;
 use std::test::Fail;
 
-mod draws;
-mod euler;
-mod marks;
 mod pairs;
+mod worlds;
 
 /// Makes a body at (x, 0, 0).
 fn make<K: Modeller, L: Ledger>(
@@ -24,30 +22,6 @@ fn make<K: Modeller, L: Ledger>(
     assert!(rt; partition.holder().is_some());
     assert_eq!(rt; partition.short(&Act::Call(Call::Mvfs { at }), steps), 0);
     partition.call(Call::Mvfs { at }, steps)
-}
-
-/// Five tags from this one on.
-fn tags(first: u8) -> [Tag; 5] {
-    let first = u32::from(first);
-    [
-        Tag(first),
-        Tag(first + 1),
-        Tag(first + 2),
-        Tag(first + 3),
-        Tag(first + 4),
-    ]
-}
-
-/// Does an act for which there are tags enough.
-fn act<K: Modeller, L: Ledger>(
-    rt: &impl Abort,
-    partition: &mut Partition<K>,
-    act: Act,
-    steps: &mut Steps<L>,
-) -> Result<Reply, Fault> {
-    assert!(rt; partition.holder().is_some());
-    assert_eq!(rt; partition.short(&act, steps), 0);
-    partition.act(act, steps)
 }
 
 /// A call that is not done yet.
@@ -115,19 +89,6 @@ fn check_went(rt: &impl Abort, reply: Result<Reply, Fault>, fresh: &[Tag], gone:
     assert_eq!(rt; lists.fresh.as_slice(), fresh);
     assert_eq!(rt; lists.gone.as_slice(), gone);
     assert!(rt; lists.changed.as_slice().is_empty());
-}
-
-/// The goto took both lists of tags away, one after the other, and did nothing else.
-fn check_went_over(rt: &impl Abort, reply: Result<Reply, Fault>, first: &[Tag], second: &[Tag]) {
-    let Ok(Reply::Went(lists)) = reply else {
-        panic!(rt; "it went nowhere");
-    };
-    assert!(rt; lists.fresh.as_slice().is_empty());
-    assert!(rt; lists.changed.as_slice().is_empty());
-    let gone = lists.gone.as_slice();
-    assert_eq!(rt; gone.len(), 10);
-    assert_eq!(rt; &gone[..5], first);
-    assert_eq!(rt; &gone[5..], second);
 }
 
 fn check_refused(rt: &impl Abort, reply: Result<Reply, Fault>, expected: Refusal) {

@@ -21,5 +21,3 @@ mod entity;
 mod list;
 mod refusal;
 mod tag;
-#[cfg(test)]
-mod tests;

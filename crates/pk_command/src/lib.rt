@@ -14,6 +14,4 @@ mod field;
 mod laws;
 mod make;
 mod operands;
-#[cfg(test)]
-mod tests;
 mod verb;

@@ -1,5 +1,5 @@
 -- Maps by their entries, so that what is asked of inserted entries computes.
-use Rattle.std.proofs.Common.{◌≡◌, ◌∷◌, List, [], length, refl, sym, ap, ◌∙◌}
+use Rattle.std.proofs.Common.{◌≡◌, List, [], sym, ap, ◌∙◌}
 use Rattle.std.specs.Prelude.{map, filter, is_none}
 use Rattle.std.specs.FinMap.{empty, insert, keys, entries, put, find, entries-insert, get-entries, len-empty, len-entries}
 use Rattle.pk_base.specs.declared.tag.Tag.{Tag}
@@ -7,19 +7,16 @@ use Rattle.pk_base.specs.declared.entity.Entity.{Entity}
 use Rattle.pk_base.specs.declared.list.Lists.{Lists}
 use Rattle.pk_model.specs.Maps.{EntityMap, tag_cmp, differ, diff}
 use Rattle.pk_model.proofs.TagLists.{tag_total}
+use Rattle.list_facts.proofs.Lengths.{nil_of_length}
 
 abbrev pub Entries : Type 0
 Entries = List (Tag × Entity)
-
-none_of_length : (es : Entries) → length es ≡ 0 → es ≡ []
-none_of_length [] e = refl
-none_of_length (x ∷ es) e = absurd (cc)
 
 abbrev pub no_entities : EntityMap
 no_entities = empty
 
 pub entries-empty : entries no_entities ≡ []
-entries-empty = none_of_length _ (sym (len-entries no_entities) ∙ len-empty tag_cmp Entity)
+entries-empty = nil_of_length _ (sym (len-entries no_entities) ∙ len-empty tag_cmp Entity)
 
 -- one more entry
 pub entries-more : (m : EntityMap) (es : Entries) (k : Tag) (v : Entity) → entries m ≡ es → entries (insert m k v) ≡ put tag_cmp k v es

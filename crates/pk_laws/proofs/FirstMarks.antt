@@ -3,7 +3,7 @@ use Rattle.std.proofs.Common.{◌≡◌, ◌≢◌, ℕ, ◌+◌, ◌-◌, ◌*�
 use Rattle.std.specs.Prelude.{◌<◌, if◌then◌else◌, map, find, Contains}
 use Rattle.std.specs.Option.{option_or}
 use Rattle.std.specs.List.{AllByRecursion}
-use Rattle.std.proofs.lemmas.Bool.{eqb-true, ne_eqb}
+use Rattle.std.proofs.lemmas.Bool.{ne_eqb}
 use Rattle.std.proofs.lemmas.Option.{same_Some}
 use Rattle.std.proofs.lemmas.List.{length-append, take-append-drop, take_more}
 use Rattle.std.proofs.lemmas.List.Folds.{find-append}
@@ -15,15 +15,18 @@ use Rattle.pk_base.specs.declared.act.Entry.{Entry}
 use Rattle.pk_base.specs.declared.act.Entry.TheVariants.{Did}
 use Rattle.pk_base.specs.declared.refusal.Refusal.TheVariants as refusal
 use Rattle.pk_base.specs.Blocks.{tag}
+use Rattle.pk_base.proofs.Same.{same_tag-Decides}
 use Rattle.pk_model.specs.Tags.{owns, next_tags, tag_at, tags_of}
 use Rattle.pk_model.specs.State.{Mark, PartitionState, initial_mark, opening}
 use Rattle.pk_model.specs.Modelling.{Modelling}
 use Rattle.pk_model.specs.Step.{mark_at, live_mark, parent_of, after_deletion, deleted_mark}
 use Rattle.pk_model.specs.Replay.{replay_from, replay}
 use Rattle.pk_model.specs.Apart.{NoRepeats}
-use Rattle.pk_model.proofs.TagLists.{Ascends, Ascends-push, ByRecursion-append, ByRecursion-weaker, ByRecursion-at, length-tags_of, tag_at-next_tags, take-tags_of-more, take-tags_of-append, NoRepeats-take, NoRepeats-tags_of, Contains-owns, ByRecursion-map}
-use Rattle.pk_model.proofs.Transitions.{contains_first, EachWay, replay_way}
+use Rattle.pk_model.proofs.TagLists.{Ascends, Ascends-push, length-tags_of, tag_at-next_tags, take-tags_of-more, take-tags_of-append, NoRepeats-take, NoRepeats-tags_of, Contains-owns}
+use Rattle.pk_model.proofs.Transitions.{EachWay, replay_way}
 use Rattle.pk_model.proofs.TagsTaken.{first_tag, ByRecursion-find}
+use Rattle.list_facts.proofs.Elements.{Contains-first}
+use Rattle.list_facts.proofs.Each.{ByRecursion-append, ByRecursion-weaker, ByRecursion-map, ByRecursion-at}
 
 -- ---- what a search finds
 
@@ -45,11 +48,8 @@ find_none test (x ∷ xs) h = ap (λ b. cond b (Some x) (find test xs)) h.0 ∙ 
 abbrev pub find_mark : Tag → List Mark → Option Mark
 find_mark m marks = find (λ (k : Mark). same_tag k.tag m) marks
 
-pub same_tag-same : (a b : Tag) → same_tag a b ≡ true → a ≡ b
-same_tag-same a b h = ap tag (eqb-true a.0 b.0 h)
-
 pub find_mark-tag : (m : Tag) (marks : List Mark) (k : Mark) → find_mark m marks ≡ Some k → k.tag ≡ m
-find_mark-tag m marks k h = same_tag-same k.tag m (find_passes (λ (x : Mark). same_tag x.tag m) marks k h)
+find_mark-tag m marks k h = (same_tag-Decides k.tag m).0 (find_passes (λ (x : Mark). same_tag x.tag m) marks k h)
 
 -- what a mark is after a deletion: deleted itself, below another parent, or as before
 pub deletion_by : (P : Mark → Type 0) (n q : Tag) (k : Mark) → (same_tag k.tag n ≡ true → P (deleted_mark k)) → (same_tag k.tag n ≡ false → same_optional k.parent (Some n) ≡ true → P (record k { parent = Some q })) → (same_tag k.tag n ≡ false → P k) → P (after_deletion n q k)
@@ -123,7 +123,7 @@ pub MarksTaken-opening : (p : ℕ) → MarksTaken (opening p)
 MarksTaken-opening p = record {
   ascends = (tt, tt);
   within = omega arith;
-  marks = (subst (λ l. Contains l (initial_mark p)) (first_tag p) (contains_first (initial_mark p)), tt);
+  marks = (subst (λ l. Contains l (initial_mark p)) (first_tag p) (Contains-first (initial_mark p) []), tt);
 }
 
 -- the tags of the marks stay among those taken
@@ -157,7 +157,7 @@ MarksTaken-way s e k =
         ascends = k.ascends;
         within = omega arith;
         marks = ByRecursion-append _ s.marks _ (marks_more s 1 k)
-            (subst (λ l. Contains l (next_tag s)) (sym (taken_with_next s fits)) (Contains-append_right (taken_tags s) (next_tag s ∷ []) (next_tag s) (contains_first (next_tag s))), tt);
+            (subst (λ l. Contains l (next_tag s)) (sym (taken_with_next s fits)) (Contains-append_right (taken_tags s) (next_tag s ∷ []) (next_tag s) (Contains-first (next_tag s) [])), tt);
       };
       deletes = λ t n q x _ _ _. record {
         ascends = k.ascends;
@@ -177,7 +177,7 @@ no_mark_yet s k fits =
   where
     last_is_new : (ts : List Tag) (t : Tag) → NoRepeats (ts ++ t ∷ []) → AllByRecursion (λ u. u ≢ t) ts
     last_is_new [] t h = tt
-    last_is_new (u ∷ us) t h = (ByRecursion-at (λ x. u ≢ x) (us ++ t ∷ []) t h.0 (Contains-append_right us (t ∷ []) t (contains_first t)), last_is_new us t h.1)
+    last_is_new (u ∷ us) t h = (ByRecursion-at (λ x. u ≢ x) (us ++ t ∷ []) t h.0 (Contains-append_right us (t ∷ []) t (Contains-first t [])), last_is_new us t h.1)
 
 pub replay-MarksTaken : (K : Modelling) (p : ℕ) (es : List Entry) (s : PartitionState) → replay K p es ≡ Some s → MarksTaken s
 replay-MarksTaken K p es s h = replay_way K MarksTaken es (λ r e _ k. MarksTaken-way r e k) (opening p) s (MarksTaken-opening p) h

@@ -11,8 +11,10 @@ use Rattle.pk_model.specs.State.{Mark, PartitionState, opening}
 use Rattle.pk_model.specs.Modelling.{Modelling}
 use Rattle.pk_model.specs.Step.{after_deletion, live_rows, row_of}
 use Rattle.pk_model.specs.Replay.{replay}
-use Rattle.pk_model.proofs.TagLists.{ByRecursion-weaker, ByRecursion-at, ByRecursion-take, TagsAscend-tags_of}
-use Rattle.pk_model.proofs.Transitions.{contains_first, EachWay, replay_way}
+use Rattle.pk_model.proofs.TagLists.{TagsAscend-tags_of}
+use Rattle.pk_model.proofs.Transitions.{EachWay, replay_way}
+use Rattle.list_facts.proofs.Elements.{Contains-first}
+use Rattle.list_facts.proofs.Each.{ByRecursion-weaker, ByRecursion-at, ByRecursion-take}
 use Rattle.pk_laws.proofs.FirstMarks.{MarksTaken, MarksTaken-opening, MarksTaken-way, deletion-tag, next_tag, taken_tags, taken_with_next}
 
 -- ---- tags that ascend
@@ -25,7 +27,7 @@ TagsAscend-take (suc n) (t ∷ ts) h = (ByRecursion-take _ n ts h.0, TagsAscend-
 -- the last of tags that ascend is above the others
 below_last : (ts : List Tag) (t : Tag) → TagsAscend (ts ++ t ∷ []) → AllByRecursion (λ u. u.0 < t.0) ts
 below_last [] t h = tt
-below_last (u ∷ us) t h = (ByRecursion-at (λ x. u.0 < x.0) (us ++ t ∷ []) t h.0 (Contains-append_right us (t ∷ []) t (contains_first t)), below_last us t h.1)
+below_last (u ∷ us) t h = (ByRecursion-at (λ x. u.0 < x.0) (us ++ t ∷ []) t h.0 (Contains-append_right us (t ∷ []) t (Contains-first t [])), below_last us t h.1)
 
 -- ---- marks whose tags ascend
 

@@ -17,6 +17,7 @@ use Rattle.pk_base.specs.declared.act.Reply.TheVariants as reply
 use Rattle.pk_base.specs.declared.refusal.Refusal.{Refusal}
 use Rattle.pk_base.specs.declared.refusal.Refusal.TheVariants as refusal
 use Rattle.pk_base.specs.Blocks.{tag}
+use Rattle.pk_base.proofs.Same.{same_tag-Decides}
 use Rattle.pk_model.specs.Tags.{owns, tags_of, tags_of_block}
 use Rattle.pk_model.specs.Maps.{EntityMap, diff}
 use Rattle.pk_model.specs.State.{Mark, PartitionState, initial_mark, opening, holds}
@@ -26,10 +27,10 @@ use Rattle.pk_model.specs.Replay.{replay_from, replay}
 use Rattle.pk_model.specs.VertexBodies.{vertex_bodies}
 use Rattle.pk_laws.specs.WorkedJournals.{vertex_body}
 use Rattle.pk_laws.specs.Return.{WasMade, IsUnmarked, GoesTo, IsRefused}
-use Rattle.pk_model.proofs.TagLists.{contains_only}
+use Rattle.list_facts.proofs.Elements.{Contains-only}
 use Rattle.pk_model.proofs.Replays.{replay_from-first, replay_from-append, replay_from-step}
 use Rattle.pk_model.proofs.Transitions.{enough, step_way}
-use Rattle.pk_laws.proofs.FirstMarks.{find_mark, next_tag, same_tag-same, find_mark-tag, deletion_by, find_mark-deletion, mark_at_found, mark_at_live, mark_at_dead, MarksTaken, MarksTaken-way, no_mark_yet, replay-MarksTaken, Found, Outlives, Found-way, replay-Found, mark_owned}
+use Rattle.pk_laws.proofs.FirstMarks.{find_mark, next_tag, find_mark-tag, deletion_by, find_mark-deletion, mark_at_found, mark_at_live, mark_at_dead, MarksTaken, MarksTaken-way, no_mark_yet, replay-MarksTaken, Found, Outlives, Found-way, replay-Found, mark_owned}
 
 -- ---- going to a mark
 
@@ -85,7 +86,7 @@ first_mark-outlives : (p : ℕ) (s : PartitionState) (e : Entry) → Outlives (i
 first_mark-outlives p s e t n q x k asked at below is same =
     deletion_by (λ y. y ≡ first_mark p) n q k
     (λ gone. absurd (
-    let tags : initial_mark p ≡ n = sym (find_mark-tag (initial_mark p) s.marks k is) ∙ same_tag-same k.tag n gone in
+    let tags : initial_mark p ≡ n = sym (find_mark-tag (initial_mark p) s.marks k is) ∙ (same_tag-Decides k.tag n).0 gone in
     let found : find_mark (initial_mark p) s.marks ≡ Some x = subst (λ y. find_mark y s.marks ≡ Some x) (sym tags) (mark_at_found s n x at).0 in
     let first : x ≡ first_mark p = same_Some x k (sym found ∙ is) ∙ same in
     let refused : parent_of (first_mark p) ≡ Ok q = subst (λ y. parent_of y ≡ Ok q) first below in
@@ -143,7 +144,7 @@ replay-unmarked K m u [] c s end taken f h = absurd (let l = c.1 in omega arith)
 replay-unmarked K m u (e ∷ es) c s end taken f h =
     let first = replay_from-first K s e es end h in
     ⊎_elim (λ (l : Contains (e ∷ []) (Did u (act.Unmark m))).
-    let is = subst (λ x. step K s x ≡ Some first.first) (contains_only e (Did u (act.Unmark m)) l) first.steps in
+    let is = subst (λ x. step K s x ≡ Some first.first) (Contains-only e (Did u (act.Unmark m)) l) first.steps in
     replay-Found K m (λ (k : Mark). k.live ≡ false) es (λ r x _. IsDead-outlives m r x) first.first.state end (unmarked K s u m first.first taken f is) first.rest)
     (λ (later : Contains es (Did u (act.Unmark m))).
     replay-unmarked K m u es later first.first.state end (step_way K s MarksTaken e first.first (MarksTaken-way s e taken) first.steps)
@@ -226,7 +227,7 @@ module _ (K : Modelling) (p : ℕ) (before between : List Entry) (m : Tag) (w : 
       outlives : (s : PartitionState) (e : Entry) → Contains between e → Outlives m (λ (k : Mark). (k.live ≡ true) × (k.map ≡ w.stood.now)) s e
       outlives s e c u n q x k asked _ _ is h =
           deletion_by (λ (y : Mark). (y.live ≡ true) × (y.map ≡ w.stood.now)) n q k
-          (λ gone. let tags : n ≡ m = sym (same_tag-same k.tag n gone) ∙ find_mark-tag m s.marks k is in absurd (never (u, subst (λ y. Contains between (Did u (act.Unmark y))) tags (subst (Contains between) asked c))))
+          (λ gone. let tags : n ≡ m = sym ((same_tag-Decides k.tag n).0 gone) ∙ find_mark-tag m s.marks k is in absurd (never (u, subst (λ y. Contains between (Did u (act.Unmark y))) tags (subst (Contains between) asked c))))
           (λ _ _. h) (λ _. h)
 
   pub is_refused : (t : ℕ) → IsUnmarked m between → holds w.left t ≡ true → IsRefused K w.left t m (refusal.MarkDeleted m)

@@ -1,20 +1,22 @@
 -- No tag names two entities, for any modeller.
-use Rattle.std.proofs.Common.{◌≡◌, ◌≢◌, ℕ, ◌+◌, ◌<◌, ◌≤◌, ◌⊎◌, inl, inr, ⊎_elim, true, List, [], ◌∷◌, ◌++◌, length, take, drop, Option, Some, None, refl, sym, subst, arith}
+use Rattle.std.proofs.Common.{◌≡◌, ◌≢◌, ℕ, ◌+◌, ◌<◌, ◌≤◌, ◌⊎◌, inl, inr, ⊎_elim, true, List, [], ◌∷◌, ◌++◌, length, take, Option, Some, None, refl, sym, subst, arith}
 use Rattle.std.specs.Prelude.{IsSome, Contains}
 use Rattle.std.specs.List.{filter_map, AllByRecursion}
 use Rattle.std.proofs.lemmas.Bool.{or_cases, or_left, or_right, eqb-true}
-use Rattle.std.proofs.lemmas.List.{append-nil, take-append-drop}
+use Rattle.std.proofs.lemmas.List.{append-nil}
 use Rattle.std.proofs.lemmas.List.Elements.{Contains-append_left, Contains-append_right, Contains-append_cases}
 use Rattle.pk_base.specs.declared.tag.Tag.{Tag}
 use Rattle.pk_base.specs.declared.act.Entry.{Entry}
 use Rattle.pk_base.specs.Blocks.{block_of}
+use Rattle.list_facts.proofs.Elements.{Contains-take}
+use Rattle.list_facts.proofs.Each.{ByRecursion-append, ByRecursion-weaker, ByRecursion-contains, ByRecursion-at, ByRecursion-left, ByRecursion-right}
 use Rattle.pk_model.specs.Tags.{owns, tags_of}
 use Rattle.pk_model.specs.State.{initial_mark}
 use Rattle.pk_model.specs.Modelling.{Modelling, IsModeller}
 use Rattle.pk_model.specs.Replay.{replay, drawn_block}
 use Rattle.pk_model.specs.Apart.{Apart, NoRepeats, TakenBefore, EachTakenBefore, taken_in, created_from}
 use Rattle.pk_model.specs.Sessions.{drawn_in, BlocksApart, EachReplays, AreOneSession}
-use Rattle.pk_model.proofs.TagLists.{ByRecursion-append, ByRecursion-contains, ByRecursion-at, ByRecursion-weaker, NoRepeats-append, NoRepeats-take, NoRepeats-blocks_apart, BlocksApart-ascends, Contains-owns, not_owned}
+use Rattle.pk_model.proofs.TagLists.{NoRepeats-append, NoRepeats-take, NoRepeats-blocks_apart, BlocksApart-ascends, Contains-owns, not_owned}
 use Rattle.pk_model.proofs.TagsTaken.{replay-kept, live_taken}
 
 -- the blocks that partitions p, p + 1 and so on own over these journals
@@ -41,10 +43,7 @@ each_taken_before K good p (journal ∷ journals) = (taken_before K good p journ
 abbrev BlocksDisjoint : List ℕ → List ℕ → Type 0
 BlocksDisjoint bs cs = AllByRecursion (λ b. AllByRecursion (λ c. b ≢ c) cs) bs
 
-Contains-take : {X : Type 0} (n : ℕ) (xs : List X) (x : X) → Contains (take n xs) x → Contains xs x
-Contains-take n xs x h = subst (λ l. Contains l x) (take-append-drop n xs) (Contains-append_left (take n xs) (drop n xs) x h)
-
-owns-append_left : (bs cs : List ℕ) (t : Tag) → owns bs t ≡ true → owns (bs ++ cs) t ≡ true
+pub owns-append_left : (bs cs : List ℕ) (t : Tag) → owns bs t ≡ true → owns (bs ++ cs) t ≡ true
 owns-append_left [] cs t h = absurd (cc)
 owns-append_left (b ∷ bs) cs t h = ⊎_elim (λ l. or_left _ _ l) (λ r. or_right _ _ (owns-append_left bs cs t r)) (or_cases _ _ h)
 
@@ -56,17 +55,9 @@ owned_by_one : (bs cs : List ℕ) (t : Tag) → BlocksDisjoint bs cs → owns bs
 owned_by_one [] cs t d h k = cc
 owned_by_one (b ∷ bs) cs t d h k = ⊎_elim (λ l. not_owned b cs t d.0 (eqb-true b (block_of t) l) k) (λ r. owned_by_one bs cs t d.1 r k) (or_cases _ _ h)
 
-ByRecursion-left : {X : Type 0} (P : X → Type 0) (xs ys : List X) → AllByRecursion P (xs ++ ys) → AllByRecursion P xs
-ByRecursion-left P [] ys h = tt
-ByRecursion-left P (x ∷ xs) ys h = (h.0, ByRecursion-left P xs ys h.1)
-
 BlocksApart-left : (bs cs : List ℕ) → BlocksApart (bs ++ cs) → BlocksApart bs
 BlocksApart-left [] cs h = tt
 BlocksApart-left (b ∷ bs) cs h = (ByRecursion-left _ bs cs h.0, BlocksApart-left bs cs h.1)
-
-ByRecursion-right : {X : Type 0} (P : X → Type 0) (xs ys : List X) → AllByRecursion P (xs ++ ys) → AllByRecursion P ys
-ByRecursion-right P [] ys h = h
-ByRecursion-right P (x ∷ xs) ys h = ByRecursion-right P xs ys h.1
 
 BlocksApart-right : (bs cs : List ℕ) → BlocksApart (bs ++ cs) → BlocksApart cs
 BlocksApart-right [] cs h = h

@@ -1,6 +1,7 @@
 pub mod Steps
 pub mod Replays
 pub mod TagLists
+pub mod Keys
 pub mod Transitions
 pub mod TagsTaken
 pub mod Apartness

@@ -11,7 +11,7 @@ use Rattle.pk_base.specs.declared.act.Entry.{Entry}
 use Rattle.pk_model.specs.Modelling.{Modelling, IsModeller}
 use Rattle.pk_model.specs.Apart.{Apart}
 use Rattle.pk_model.specs.Sessions.{drawn_in, BlocksApart, EachReplays, AreOneSession}
-use Rattle.pk_model.proofs.TagLists.{ByRecursion-weaker}
+use Rattle.list_facts.proofs.Each.{ByRecursion-weaker}
 use Rattle.pk_model.proofs.Apartness.{session_apart}
 
 later_differ : (x a k : ℕ) → x < a → AllByRecursion (λ y. (x == y) ≡ false) (range_with_len a k)

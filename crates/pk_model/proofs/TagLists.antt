@@ -12,9 +12,11 @@ use Rattle.std.proofs.Math.Seq.{take-add}
 use Rattle.std.proofs.lemmas.List.{take-append-drop, length-append, length-drop, get_or-drop, take-append-le, get_or_append_left, get_or-append_right}
 use Rattle.std.proofs.lemmas.List.Concat.{flat_map-append}
 use Rattle.std.proofs.lemmas.List.FromFn.{length-map-range_with_len, get_or-map-range_with_len}
-use Rattle.std.proofs.lemmas.List.Elements.{All-weaker, All-contains, All-contains_itself, All-from_recursion, recursion_from_All, Contains-append_left, Contains-append_right, Contains-append_cases}
+use Rattle.std.proofs.lemmas.List.Elements.{Contains-append_left, Contains-append_right, Contains-append_cases}
 use Rattle.std.proofs.lemmas.Bool.{cases_lt, eqb-true, eq-eqb, or_cases, or_left, or_right, and_parts, ltb-true}
 use Rattle.pk_base.specs.declared.tag.Tag.{Tag}
+use Rattle.list_facts.proofs.Elements.{not_in_nil, Contains-only}
+use Rattle.list_facts.proofs.Each.{ByRecursion-append, ByRecursion-weaker, ByRecursion-contains, ByRecursion-at, ByRecursion-take}
 pub use Rattle.pk_model.specs.Tags.{Ascends}
 use Rattle.pk_base.specs.Blocks.{tag, block_of}
 use Rattle.pk_model.specs.Tags.{TagsAscend, owns, next_tags, tag_at, tags_of, tags_of_block}
@@ -138,9 +140,6 @@ block_of_contained b t (k, h, e) =
     let n : 64 * b + k ≡ t.0 = ap (λ (x : Tag). x.0) (sym (block_place b k t in') ∙ e) in
     omega arith
 
-not_in_nil : {X : Type 0} (x : X) → Contains [] x → ⊥
-not_in_nil x (k, h, e) = omega arith
-
 -- a tag is among those of blocks exactly where its block is one of them
 pub Contains-owns : (blocks : List ℕ) (t : Tag) → Contains (tags_of blocks) t → owns blocks t ≡ true
 Contains-owns [] t h = absurd (not_in_nil t (subst (λ l. Contains l t) tags_of-nil h))
@@ -163,38 +162,9 @@ owns-Contains (b ∷ bs) t h =
 abbrev pub Disjoint : List Tag → List Tag → Type 0
 Disjoint xs ys = AllByRecursion (λ x. AllByRecursion (λ y. x ≢ y) ys) xs
 
-pub ByRecursion-append : {X : Type 0} (P : X → Type 0) (xs ys : List X) → AllByRecursion P xs → AllByRecursion P ys → AllByRecursion P (xs ++ ys)
-ByRecursion-append P [] ys h k = k
-ByRecursion-append P (x ∷ xs) ys h k = (h.0, ByRecursion-append P xs ys h.1 k)
-
-pub ByRecursion-weaker : {X : Type 0} (P Q : X → Type 0) → ((x : X) → P x → Q x) → (xs : List X) → AllByRecursion P xs → AllByRecursion Q xs
-ByRecursion-weaker P Q f [] h = tt
-ByRecursion-weaker P Q f (x ∷ xs) h = (f x h.0, ByRecursion-weaker P Q f xs h.1)
-
-pub ByRecursion-map : {X Y : Type 0} (P : X → Type 0) (Q : Y → Type 0) (f : X → Y) → ((x : X) → P x → Q (f x)) → (xs : List X) → AllByRecursion P xs → AllByRecursion Q (map f xs)
-ByRecursion-map P Q f g [] h = tt
-ByRecursion-map P Q f g (x ∷ xs) h = (g x h.0, ByRecursion-map P Q f g xs h.1)
-
-pub ByRecursion-contains : {X : Type 0} (P : X → Type 0) (xs : List X) → ((x : X) → Contains xs x → P x) → AllByRecursion P xs
-ByRecursion-contains P xs f = recursion_from_All P xs (All-weaker (Contains xs) P f xs (All-contains_itself xs))
-
--- what holds of each element holds of the one at a place
-pub ByRecursion-get_or : {X : Type 0} (P : X → Type 0) (xs : List X) (i : ℕ) (d : X) → i < length xs → AllByRecursion P xs → P (get_or xs i d)
-ByRecursion-get_or P [] i d h k = absurd (omega arith)
-ByRecursion-get_or P (x ∷ xs) zero d h k = k.0
-ByRecursion-get_or P (x ∷ xs) (suc i) d h k = ByRecursion-get_or P xs i d (omega arith) k.1
-
-pub ByRecursion-at : {X : Type 0} (P : X → Type 0) (xs : List X) (x : X) → AllByRecursion P xs → Contains xs x → P x
-ByRecursion-at P xs x h k = All-contains P xs x (All-from_recursion P xs h) k
-
 pub NoRepeats-append : (xs ys : List Tag) → NoRepeats xs → NoRepeats ys → Disjoint xs ys → NoRepeats (xs ++ ys)
 NoRepeats-append [] ys h k d = k
 NoRepeats-append (x ∷ xs) ys h k d = (ByRecursion-append _ xs ys h.0 d.0, NoRepeats-append xs ys h.1 k d.1)
-
-pub ByRecursion-take : {X : Type 0} (P : X → Type 0) (n : ℕ) (xs : List X) → AllByRecursion P xs → AllByRecursion P (take n xs)
-ByRecursion-take P zero xs h = tt
-ByRecursion-take P (suc n) [] h = tt
-ByRecursion-take P (suc n) (x ∷ xs) h = (h.0, ByRecursion-take P n xs h.1)
 
 pub NoRepeats-take : (n : ℕ) (xs : List Tag) → NoRepeats xs → NoRepeats (take n xs)
 NoRepeats-take zero xs h = tt
@@ -291,16 +261,11 @@ TagsAscend-drop (suc n) (t ∷ ts) h = TagsAscend-drop n ts h.1
 pub TagsAscend-next_tags : (blocks : List ℕ) (used : ℕ) → Ascends blocks → TagsAscend (next_tags blocks used)
 TagsAscend-next_tags blocks used h = TagsAscend-drop used (tags_of blocks) (TagsAscend-tags_of blocks h)
 
--- a list of one has only that
-pub contains_only : {X : Type 0} (x y : X) → Contains (x ∷ []) y → x ≡ y
-contains_only x y (zero, h, e) = e
-contains_only x y (suc k, h, e) = absurd (omega arith)
-
 -- where no tag stands twice, none of the first part is in the second
 pub NoRepeats-between : (xs ys : List Tag) (t : Tag) → NoRepeats (xs ++ ys) → Contains xs t → Contains ys t → ⊥
 NoRepeats-between [] ys t n h k = not_in_nil t h
 NoRepeats-between (x ∷ xs) ys t n h k =
-    ⊎_elim (λ (l : Contains (x ∷ []) t). ByRecursion-at (λ u. x ≢ u) (xs ++ ys) t n.0 (Contains-append_right xs ys t k) (contains_only x t l))
+    ⊎_elim (λ (l : Contains (x ∷ []) t). ByRecursion-at (λ u. x ≢ u) (xs ++ ys) t n.0 (Contains-append_right xs ys t k) (Contains-only x t l))
     (λ (r : Contains xs t). NoRepeats-between xs ys t n.1 r k)
     (Contains-append_cases (x ∷ []) xs t h)
 

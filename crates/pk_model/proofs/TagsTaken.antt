@@ -18,6 +18,8 @@ use Rattle.pk_base.specs.declared.act.Entry.TheVariants.{Claimed, Drew, Did, Spe
 use Rattle.pk_base.specs.declared.act.Reply.TheVariants as reply
 use Rattle.pk_base.specs.declared.refusal.Refusal.{Refusal}
 use Rattle.pk_base.specs.declared.refusal.Refusal.TheVariants as refusal
+use Rattle.list_facts.proofs.Each.{ByRecursion-append, ByRecursion-weaker, ByRecursion-map, ByRecursion-contains}
+use Rattle.list_facts.proofs.Lengths.{cons_option-append}
 use Rattle.pk_model.specs.Tags.{owns, next_tags, tags_of, tags_of_block}
 use Rattle.pk_model.specs.Maps.{EntityMap, tag_cmp, diff}
 use Rattle.pk_model.specs.State.{Mark, PartitionState, initial_mark, opening}
@@ -26,7 +28,7 @@ use Rattle.pk_model.specs.Step.{act_cost, step, Stepped, with_answer, reach_of, 
 use Rattle.pk_model.specs.Replay.{replay_from, replay, answered_entries_from, AnsweredEntry, drawn_block}
 use Rattle.pk_model.specs.Apart.{taken_by, taken_in, IsLiveIn}
 use Rattle.pk_model.proofs.Replays.{replay_from-first, answered_entries_from-step}
-use Rattle.pk_model.proofs.TagLists.{Ascends, Ascends-push, ByRecursion-append, ByRecursion-weaker, ByRecursion-contains, TagsAscend-next_tags, taken_or_next, length-next_tags, take-tags_of-more, take-tags_of-append, ByRecursion-map}
+use Rattle.pk_model.proofs.TagLists.{Ascends, Ascends-push, TagsAscend-next_tags, taken_or_next, length-next_tags, take-tags_of-more, take-tags_of-append}
 use Rattle.pk_model.proofs.Transitions.{enough}
 
 -- each tag of the map is among these
@@ -267,10 +269,6 @@ module _ (K : Modelling) (good : IsModeller K) (p : ℕ) (drawn : List ℕ) (tak
       subst (λ (x : Stepped). TakenInOrder K p (drawn ++ []) (taken ++ []) x.state) c.1 (TakenInOrder-same K p drawn taken s k)
 
 -- ---- a whole replay
-
-cons_option-append : {X : Type 0} (o : Option X) (xs : List X) → cons_option o [] ++ xs ≡ cons_option o xs
-cons_option-append None xs = refl
-cons_option-append (Some x) xs = refl
 
 pub replay_from-kept : (K : Modelling) → IsModeller K → (p : ℕ) (drawn : List ℕ) (taken : List Tag) (s : PartitionState) (es : List Entry) (end : PartitionState) → TakenInOrder K p drawn taken s → replay_from K s es ≡ Some end → TakenInOrder K p (drawn ++ filter_map drawn_block es) (taken ++ flat_map (λ x. taken_by K x.before x.entry) (answered_entries_from K s es)) end
 replay_from-kept K good p drawn taken s [] end k h = subst (TakenInOrder K p (drawn ++ []) (taken ++ [])) (same_Some s end h) (TakenInOrder-same K p drawn taken s k)

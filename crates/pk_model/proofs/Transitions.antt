@@ -5,6 +5,7 @@ use Rattle.std.specs.List.{list_all}
 use Rattle.std.proofs.lemmas.Bool.{and_parts, eqb-true}
 use Rattle.std.proofs.lemmas.Option.{same_Some, cond_some}
 use Rattle.std.proofs.lemmas.List.Elements.{Contains-append_left, Contains-append_right}
+use Rattle.list_facts.proofs.Elements.{Contains-first}
 use Rattle.pk_base.specs.declared.tag.Tag.{Tag}
 use Rattle.pk_base.specs.declared.act.Act.{Act}
 use Rattle.pk_base.specs.declared.act.Act.TheVariants as act
@@ -20,9 +21,6 @@ use Rattle.pk_model.specs.Modelling.{Modelling, Outcome}
 use Rattle.pk_model.specs.Step.{act_cost, short, step, Stepped, with_answer, reach_of, mark_at, parent_of, ◌>>=◌, call_reaches, mark_reaches, goto_reaches, unmark_reaches}
 use Rattle.pk_model.specs.Replay.{replay_from}
 use Rattle.pk_model.proofs.Replays.{replay_from-first}
-
-pub contains_first : {X : Type 0} (x : X) → Contains (x ∷ []) x
-contains_first x = (0, omega arith, refl)
 
 -- What is shown for each way in which an entry may change a state.
 pub record EachWay (s : PartitionState) (e : Entry) (Q : PartitionState → Type 0) : Type 0 where
@@ -97,5 +95,5 @@ pub replay_way : (K : Modelling) (Q : PartitionState → Type 0) (es : List Entr
 replay_way K Q [] w s end q h = subst Q (same_Some s end h) q
 replay_way K Q (e ∷ es) w s end q h =
     let c = replay_from-first K s e es end h in
-    let next = step_way K s Q e c.first (w s e (Contains-append_left (e ∷ []) es e (contains_first e)) q) c.steps in
+    let next = step_way K s Q e c.first (w s e (Contains-append_left (e ∷ []) es e (Contains-first e [])) q) c.steps in
     replay_way K Q es (λ r x k. w r x (Contains-append_right (e ∷ []) es x k)) c.first.state end next c.rest

@@ -17,11 +17,12 @@ use Rattle.pk_base.specs.declared.entity.Entity.TheVariants.{Body, Shell, Face, 
 use Rattle.pk_base.specs.declared.entity.Point.{Point}
 use Rattle.pk_base.specs.declared.entity.Triple.{Triple}
 use Rattle.pk_base.specs.declared.refusal.Refusal.{Refusal}
+use Rattle.list_facts.proofs.Each.{ByRecursion-weaker, ByRecursion-get_or}
 use Rattle.pk_model.specs.Tags.{TagsAscend, tag_at}
 use Rattle.pk_model.specs.Maps.{EntityMap, tag_cmp}
 use Rattle.pk_model.specs.Modelling.{Outcome, IsModeller}
 use Rattle.pk_model.specs.VertexBodies.{vertex_bodies, IsClosed, point_of, with_vertex_body, mvfs, mvfs_step, mvfs_cost, first_outside, place_of, step_at, cost_at}
-use Rattle.pk_model.proofs.TagLists.{ByRecursion-get_or, ByRecursion-weaker, tag_total, tag_antisymmetric, ties_itself}
+use Rattle.pk_model.proofs.TagLists.{tag_total, tag_antisymmetric, ties_itself}
 
 -- what is live after an insert was live before, or is the new tag
 pub insert_live : (m : EntityMap) (k : Tag) (v : Entity) (t : Tag) → IsSome (get (insert m k v) t) → IsSome (get m t) ⊎ (t ≡ k)
@@ -73,7 +74,7 @@ ClosedIn-insert whole m k v old names owner t e h =
     (cases_Bool (eq_by_cmp tag_cmp t k))
 
 -- tags at different places of ascending tags differ
-TagsAscend-at : (tags : List Tag) (i j : ℕ) → TagsAscend tags → i < j → j < length tags → (tag_at tags i).0 < (tag_at tags j).0
+pub TagsAscend-at : (tags : List Tag) (i j : ℕ) → TagsAscend tags → i < j → j < length tags → (tag_at tags i).0 < (tag_at tags j).0
 TagsAscend-at [] i j h l k = absurd (omega arith)
 TagsAscend-at (t ∷ ts) zero zero h l k = absurd (omega arith)
 TagsAscend-at (t ∷ ts) zero (suc j) h l k = ByRecursion-get_or (λ u. t.0 < u.0) ts j (tag 0) (omega arith) h.0

@@ -12,7 +12,7 @@ use Rattle.pk_command.specs.declared.field.Kind.{Kind}
 use Rattle.pk_command.specs.declared.field.Kind.TheVariants as kind
 use Rattle.pk_command.specs.declared.verb.Verb.{Verb}
 use Rattle.pk_command.specs.declared.verb.Verb.TheVariants as verb
-use Rattle.pk_model.proofs.TagLists.{ByRecursion-append}
+use Rattle.list_facts.proofs.Each.{ByRecursion-append}
 use Rattle.script_text.specs.FieldWords.{◌>>=◌, Spelled, after_field, after_fields, corners_after, fits, one_word, operand_of, point_words, spelled, tag_word, triple_of}
 use Rattle.script_text.specs.Form.{Bound, Draft, after_header, after_line, after_schedule, after_thread, at_line, blank_draft, bound_of, by_stage, by_words, finished, inside, line_of, name_bound, no_words, one_number, order_of, order_of_command, order_with, outside, script_from, script_of, session_of, small_or_bad, thread_ended, turns_after, with_line, with_order}
 use Rattle.script_text.specs.Lines.{are_text_bytes, is_comment, text_lines, words_of}

@@ -2,3 +2,4 @@
 pub mod Statuses
 pub mod Built
 pub mod Headline
+pub mod Line

@@ -2,7 +2,9 @@
 //! program does.
 #![tactic(auto)]
 
+pub use ending::{Line, line_of, name_of};
 pub use run::{Outcome, Status, run_serial};
 
 mod built;
+mod ending;
 mod run;

@@ -197,6 +197,3 @@ fn has_refused(said: &SaidList) -> bool
         .iter()
         .any(|line| matches!(line.said, LineSaid::Refused(_)))
 }
-
-#[cfg(test)]
-mod tests;

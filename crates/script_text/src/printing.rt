@@ -140,6 +140,3 @@ fn write_entries(alloc: Global, out: &mut Text, entries: &[Entry]) -> Result<(),
     }
     Ok(())
 }
-
-#[cfg(test)]
-mod tests;

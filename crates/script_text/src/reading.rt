@@ -18,8 +18,6 @@ mod lines;
 mod names;
 mod numbers;
 mod orders;
-#[cfg(test)]
-mod tests;
 
 /// The script that the bytes are, or the first line that offends, from 1, with the first cause that
 /// applies to it. What offends at the end of the input has the number of lines plus 1. `NoMemory`

@@ -1,13 +1,10 @@
--- Draws one after another, and partitions let go one after another.
-use Rattle.std.proofs.Common.{◌≡◌, ◌≢◌, ℕ, suc, ◌<◌, ◌≤◌, nat_le, Bool, true, false, cond, List, [], ◌∷◌, Option, Some, None, ap, ◌∙◌, arith}
-use Rattle.std.specs.List.{AllByRecursion}
+-- Draws one after another.
+use Rattle.std.proofs.Common.{◌≡◌, ℕ, suc, nat_le, Bool, true, false, cond, Option, Some, None, ap}
 use Rattle.pk_model.specs.Modelling.{Modelling}
-use Rattle.world_core.specs.World.{IsAsLarge, WorldPartition, WorldState, partition_at}
+use Rattle.world_core.specs.World.{WorldState}
 use Rattle.world_core.specs.Runs.{after_event}
 use Rattle.world_core.specs.declared.event.Event.TheVariants as event
 use Rattle.serial_run.specs.Serial.{Drawn, by, draws}
-use Rattle.serial_run.specs.Held.{Ascends}
-use Rattle.serial_run.specs.Reached.{IsHeldBy}
 
 -- a world after draws
 abbrev pub as_drawn : WorldState → Option ℕ → Drawn
@@ -28,21 +25,3 @@ no_draw K t p k n w after w' false h = h
 -- one draw that found no block left is the last
 pub draws-spent : (K : Modelling) (t p k n : ℕ) (w w' : WorldState) → draws K t p 1 w ≡ record { world = w'; spent = Some n } → draws K t p (suc k) w ≡ record { world = w'; spent = Some n }
 draws-spent K t p k n w w' h = no_draw K t p k n w (after_event K w (by t (event.Draw p))) w' (nat_le w.blocks.next w.blocks.last) h
-
--- what a thread holds it still holds, where the partition is as it was
-pub held_same : (w w' : WorldState) (t p : ℕ) → IsAsLarge w w' → partition_at w' p ≡ partition_at w p → IsHeldBy w t p → IsHeldBy w' t p
-held_same w w' t p large same h = record {
-  first = h.first;
-  last = omega (arith, large.partitions, h.last);
-  holder = ap (λ (q : WorldPartition). q.state.holder) same ∙ h.holder;
-}
-
--- partitions above p are still held, where p alone has changed
-pub held_above : (w w' : WorldState) (t p : ℕ) (ps : List ℕ) → IsAsLarge w w' → ((q : ℕ) → 1 ≤ q → q ≢ p → partition_at w' q ≡ partition_at w q) → Ascends p ps → AllByRecursion (IsHeldBy w t) ps → AllByRecursion (IsHeldBy w' t) ps
-held_above w w' t p [] large others up h = tt
-held_above w w' t p (q ∷ qs) large others up h =
-    let more : q ≢ p = λ e. absurd (omega (arith, up.0, e)) in
-    (held_same w w' t q large (others q h.0.first more) h.0, held_above w w' t p qs large others (above p q qs up.0 up.1) h.1) where
-      above : (low high : ℕ) (rs : List ℕ) → low < high → Ascends high rs → Ascends low rs
-      above low high [] less a = tt
-      above low high (r ∷ rs) less a = (omega (arith, less, a.0), a.1)

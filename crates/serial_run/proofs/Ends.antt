@@ -3,44 +3,36 @@ use Rattle.std.proofs.Common.{◌≡◌, ℕ, zero, suc, ◌+◌, ◌-◌, ◌<�
 use Rattle.std.specs.Prelude.{◌≢◌, ◌⊎◌, ◌==◌, slice_get, slice_set}
 use Rattle.std.specs.Option.{option_map_or}
 use Rattle.std.specs.List.{range_with_len, sum_by}
-use Rattle.std.proofs.lemmas.Bool.{cases_eq, cases_lt, eq-eqb, eqb-true, ltb-false, or_cases, or_left, or_right, true≢false}
-use Rattle.std.proofs.lemmas.Option.{same_Some, slice_get_past, slice_get_within}
+use Rattle.std.proofs.lemmas.Bool.{cases_eq, cases_lt, eq-eqb, eqb-true, or_cases, or_left, or_right, true≢false}
+use Rattle.std.proofs.lemmas.Option.{same_Some, slice_get_past, none-some}
 use Rattle.std.proofs.lemmas.List.{length-append}
 use Rattle.std.proofs.lemmas.List.Sums.{sum_by-cons}
 use Rattle.pk_base.specs.declared.refusal.Refusal.{Refusal}
 use Rattle.pk_model.specs.Modelling.{Modelling, IsModeller}
 use Rattle.world_core.specs.World.{WorldState, partition_at}
-use Rattle.world_core.specs.Runs.{after_event}
-use Rattle.world_core.specs.declared.event.Event.TheVariants as event
-use Rattle.script_text.specs.Walk.{greatest, is_held, refusal_of_order, with_held}
+use Rattle.script_text.specs.Walk.{is_held, refusal_of_order}
 use Rattle.script_text.specs.declared.script.Script.{Script}
 use Rattle.script_text.specs.declared.script.ScriptLine.{ScriptLine}
 use Rattle.script_text.specs.declared.script.Order.{Order}
 use Rattle.script_text.specs.declared.script.Order.TheVariants.{Lock, Unlock, End, On}
-use Rattle.script_text.specs.declared.report.LineSaid.TheVariants.{Locked}
-use Rattle.serial_run.specs.Serial.{Carried, RunState, ThreadState, by, carry, carry_lock, goes_on, line_count, lines_at, next_line, obey, rounds, run_begins, run_of, thread_at, turn, turn_of, turned_away, turns, walker_now}
+use Rattle.serial_run.specs.Serial.{Carried, RunState, ThreadState, carry, carry_lock, goes_on, line_by, line_count, lines_at, lock_by, next_line, obey, obey_by, rounds, run_begins, run_of, thread_at, told, turn, turn_by, turned_away, turns, walker_now}
 use Rattle.serial_run.specs.WellFormed.{IsWellFormed}
 use Rattle.serial_run.specs.Ends.{HasEnded, HaveEnded, IsBlocked, SomeGoesOn}
-use Rattle.serial_run.proofs.Events.{none_some}
 use Rattle.serial_run.proofs.HeldLists.{held_le_greatest}
-use Rattle.serial_run.proofs.Threads.{gone_on, thread_at-place, thread_at-within}
+use Rattle.serial_run.proofs.Threads.{thread_at-place, thread_at-within}
 use Rattle.serial_run.proofs.Turning.{lock_allowed, turn_cases}
+use Rattle.serial_run.proofs.Idle.{NoneNext, idle_rounds}
 use Rattle.serial_run.proofs.Owned.{IsRunning, IsTelling, begins_running, turns_running}
 
 -- ---- waiting
 
 -- an order that is not turned away is carried out
 obey-allowed : (K : Modelling) (t : ℕ) (w : WorldState) (s : ThreadState) (order : Order) → refusal_of_order (length w.partitions) (walker_now s) order ≡ None → obey K t w s order ≡ carry K t w s order
-obey-allowed K t w s order h =
-    ap (λ (o : Option Refusal). elim o as (λ (_ : Option Refusal). Option Carried) [ None ↦ carry K t w s order | Some r ↦ Some (turned_away w s r) ]) h
+obey-allowed K t w s order h = ap (obey_by K t w s order) h
 
 -- the lock of a partition that is held waits
 lock_waits : (K : Modelling) (t : ℕ) (w : WorldState) (s : ThreadState) (p holder : ℕ) → (partition_at w p).state.holder ≡ Some holder → carry_lock K t w s p ≡ None
-lock_waits K t w s p holder h =
-    ap (λ (o : Option ℕ). elim o as (λ (_ : Option ℕ). Option Carried) [
-      | None ↦ Some (record { world = after_event K w (by t (event.Claim p)); held = with_held p s.held; names = s.names; said = Locked })
-      | Some holder ↦ None
-    ]) h
+lock_waits K t w s p holder h = ap (lock_by K t w s p) h
 
 -- the next line of a thread that is blocked leads to nothing
 pub blocked_waits : (K : Modelling) (t : ℕ) (lines : List ScriptLine) (w : WorldState) (s : ThreadState) (line : ScriptLine) → next_line lines s ≡ Some line → IsBlocked lines w s → obey K t w s line.order ≡ None
@@ -60,28 +52,22 @@ record WaitsFor (w : WorldState) (order : Order) : Type 0 where
 -- what is not carried out is the lock of a partition that is held
 carry_waits : (K : Modelling) (t : ℕ) (w : WorldState) (s : ThreadState) (order : Order) → carry K t w s order ≡ None → WaitsFor w order
 carry_waits K t w s (Lock p) h =
-    elim (partition_at w p).state.holder as (λ (o : Option ℕ). (partition_at w p).state.holder ≡ o → elim o as (λ (_ : Option ℕ). Option Carried) [
-      | None ↦ Some (record { world = after_event K w (by t (event.Claim p)); held = with_held p s.held; names = s.names; said = Locked })
-      | Some holder ↦ None
-    ] ≡ None → WaitsFor w (Lock p)) [
-      | None ↦ λ is k. absurd (none_some _ (sym k))
+    elim (partition_at w p).state.holder as (λ (o : Option ℕ). (partition_at w p).state.holder ≡ o → lock_by K t w s p o ≡ None → WaitsFor w (Lock p)) [
+      | None ↦ λ is k. absurd (none-some _ (sym k))
       | Some holder ↦ λ is k. record { partition = p; lock = refl; holder = holder; held = is }
     ] refl h
-carry_waits K t w s (Unlock p) h = absurd (none_some _ (sym h))
-carry_waits K t w s End h = absurd (none_some _ (sym h))
-carry_waits K t w s (On p a operands bind) h = absurd (none_some _ (sym h))
+carry_waits K t w s (Unlock p) h = absurd (none-some _ (sym h))
+carry_waits K t w s End h = absurd (none-some _ (sym h))
+carry_waits K t w s (On p a operands bind) h = absurd (none-some _ (sym h))
 
 -- a thread whose next line leads to nothing is blocked
 pub waits_blocked : (K : Modelling) (t : ℕ) (lines : List ScriptLine) (w : WorldState) (s : ThreadState) (line : ScriptLine) → next_line lines s ≡ Some line → obey K t w s line.order ≡ None → IsBlocked lines w s
 waits_blocked K t lines w s line next h =
-    elim (refusal_of_order (length w.partitions) (walker_now s) line.order) as (λ (o : Option Refusal). refusal_of_order (length w.partitions) (walker_now s) line.order ≡ o → elim o as (λ (_ : Option Refusal). Option Carried) [
-      | None ↦ carry K t w s line.order
-      | Some r ↦ Some (turned_away w s r)
-    ] ≡ None → IsBlocked lines w s) [
+    elim (refusal_of_order (length w.partitions) (walker_now s) line.order) as (λ (o : Option Refusal). refusal_of_order (length w.partitions) (walker_now s) line.order ≡ o → obey_by K t w s line.order o ≡ None → IsBlocked lines w s) [
       | None ↦ λ allowed k.
           let x = carry_waits K t w s line.order k in
           record { line = line; next = next; partition = x.partition; lock = x.lock; allowed = allowed; holder = x.holder; held = x.held }
-      | Some r ↦ λ is k. absurd (none_some (turned_away w s r) (sym k))
+      | Some r ↦ λ is k. absurd (none-some (turned_away w s r) (sym k))
     ] refl h
 
 -- ---- a line more
@@ -116,21 +102,21 @@ blocked_or_tells K lines r t s is within unfinished =
 
 -- a thread whose next line does not wait is not blocked
 pub tells_free : (K : Modelling) (lines : List (List ScriptLine)) (r : RunState) (t : ℕ) (x : Tells K lines r t) → IsBlocked (lines_at lines t) r.world x.state → ⊥
-tells_free K lines r t x b = none_some x.carried (sym (blocked_waits K t (lines_at lines t) r.world x.state x.line x.next b) ∙ x.obeys)
+tells_free K lines r t x b = none-some x.carried (sym (blocked_waits K t (lines_at lines t) r.world x.state x.line x.next b) ∙ x.obeys)
 
 -- its turn carries that line out
 pub tells_turn : (K : Modelling) (lines : List (List ScriptLine)) (r : RunState) (t : ℕ) (x : Tells K lines r t) → turn K lines r t ≡ goes_on r t x.state x.line.number x.carried
 tells_turn K lines r t x =
-    ap (λ (o : Option ThreadState). elim o as (λ (_ : Option ThreadState). RunState) [ None ↦ r | Some s ↦ turn_of K (lines_at lines t) r t s ]) x.is
-    ∙ ap (λ (o : Option ScriptLine). elim o as (λ (_ : Option ScriptLine). RunState) [ None ↦ r | Some line ↦ option_map_or (goes_on r t x.state line.number) (obey K t r.world x.state line.order) r ]) x.next
+    ap (turn_by K lines r t) x.is
+    ∙ ap (line_by K r t x.state) x.next
     ∙ ap (λ o. option_map_or (goes_on r t x.state x.line.number) o r) x.obeys
 
 -- how many lines were told
-abbrev pub told : RunState → ℕ
-told r = sum_by (λ (s : ThreadState). length s.said) r.threads
+abbrev pub told_count : RunState → ℕ
+told_count r = sum_by (λ (s : ThreadState). length s.said) r.threads
 
 sum_by-set : {X : Type 0} (f : X → ℕ) (xs : List X) (i : ℕ) (x y : X) → slice_get xs i ≡ Some x → f y ≡ f x + 1 → sum_by f (slice_set xs i y) ≡ sum_by f xs + 1
-sum_by-set f [] i x y is more = absurd (none_some x is)
+sum_by-set f [] i x y is more = absurd (none-some x is)
 sum_by-set f (z ∷ xs) zero x y is more =
     let same : f z ≡ f x = ap f (same_Some z x is) in
     omega (arith, sum_by-cons f y xs, sum_by-cons f z xs)
@@ -139,23 +125,23 @@ sum_by-set f (z ∷ xs) (suc i) x y is more =
     omega (arith, sum_by-cons f z (slice_set xs i y), sum_by-cons f z xs)
 
 -- a thread that goes on was told a line more
-pub goes_on-told : (r : RunState) (t : ℕ) (s : ThreadState) (k : ℕ) (c : Carried) → thread_at r.threads t ≡ Some s → told (goes_on r t s k c) ≡ told r + 1
+pub goes_on-told : (r : RunState) (t : ℕ) (s : ThreadState) (k : ℕ) (c : Carried) → thread_at r.threads t ≡ Some s → told_count (goes_on r t s k c) ≡ told_count r + 1
 goes_on-told r t s k c is =
     let place : slice_get r.threads (t - 1) ≡ Some s = sym (thread_at-place r.threads t (thread_at-within r.threads t s is).0) ∙ is in
-    sum_by-set (λ (x : ThreadState). length x.said) r.threads (t - 1) s (gone_on s k c) place (length-append s.said _)
+    sum_by-set (λ (x : ThreadState). length x.said) r.threads (t - 1) s (told s k c) place (length-append s.said _)
 
 -- a turn changes nothing, or a line more is told
-pub turn_told : (K : Modelling) (lines : List (List ScriptLine)) (r : RunState) (t : ℕ) → (turn K lines r t ≡ r) ⊎ (told (turn K lines r t) ≡ told r + 1)
+pub turn_told : (K : Modelling) (lines : List (List ScriptLine)) (r : RunState) (t : ℕ) → (turn K lines r t ≡ r) ⊎ (told_count (turn K lines r t) ≡ told_count r + 1)
 turn_told K lines r t =
-    turn_cases K lines r t (λ x. (x ≡ r) ⊎ (told x ≡ told r + 1)) (inl refl) (λ s line c is next obeys. inr (goes_on-told r t s line.number c is))
+    turn_cases K lines r t (λ x. (x ≡ r) ⊎ (told_count x ≡ told_count r + 1)) (inl refl) (λ s line c is next obeys. inr (goes_on-told r t s line.number c is))
 
 -- no line is taken back
-turn_told-le : (K : Modelling) (lines : List (List ScriptLine)) (r : RunState) (t : ℕ) → told r ≤ told (turn K lines r t)
+turn_told-le : (K : Modelling) (lines : List (List ScriptLine)) (r : RunState) (t : ℕ) → told_count r ≤ told_count (turn K lines r t)
 turn_told-le K lines r t =
-    ⊎_elim (λ (same : turn K lines r t ≡ r). let e : told (turn K lines r t) ≡ told r = ap told same in omega arith)
-    (λ (more : told (turn K lines r t) ≡ told r + 1). omega arith) (turn_told K lines r t)
+    ⊎_elim (λ (same : turn K lines r t ≡ r). let e : told_count (turn K lines r t) ≡ told_count r = ap told_count same in omega arith)
+    (λ (more : told_count (turn K lines r t) ≡ told_count r + 1). omega arith) (turn_told K lines r t)
 
-turns_told-le : (K : Modelling) (lines : List (List ScriptLine)) (r : RunState) (ts : List ℕ) → told r ≤ told (turns K lines r ts)
+turns_told-le : (K : Modelling) (lines : List (List ScriptLine)) (r : RunState) (ts : List ℕ) → told_count r ≤ told_count (turns K lines r ts)
 turns_told-le K lines r [] = omega arith
 turns_told-le K lines r (t ∷ ts) =
     let first = turn_told-le K lines r t in
@@ -163,7 +149,7 @@ turns_told-le K lines r (t ∷ ts) =
     omega arith
 
 -- of turns among which is one of a thread whose next line does not wait, some tells a line more
-turns_tell : (K : Modelling) (lines : List (List ScriptLine)) (r : RunState) (u : ℕ) (ts : List ℕ) → Tells K lines r u → is_held ts u ≡ true → told r + 1 ≤ told (turns K lines r ts)
+turns_tell : (K : Modelling) (lines : List (List ScriptLine)) (r : RunState) (u : ℕ) (ts : List ℕ) → Tells K lines r u → is_held ts u ≡ true → told_count r + 1 ≤ told_count (turns K lines r ts)
 turns_tell K lines r u [] x among = absurd (true≢false (sym among))
 turns_tell K lines r u (t ∷ ts) x among =
     let later = turns_tell K lines r u ts x in
@@ -171,14 +157,14 @@ turns_tell K lines r u (t ∷ ts) x among =
     ⊎_elim (λ (same : turn K lines r t ≡ r).
     ⊎_elim (λ (here : (t == u) ≡ true).
     let e : turn K lines r t ≡ turn K lines r u = ap (turn K lines r) (eqb-true t u here) in
-    let more : told (turn K lines r t) ≡ told r + 1 = ap told (e ∙ tells_turn K lines r u x) ∙ goes_on-told r u x.state x.line.number x.carried x.is in
+    let more : told_count (turn K lines r t) ≡ told_count r + 1 = ap told_count (e ∙ tells_turn K lines r u x) ∙ goes_on-told r u x.state x.line.number x.carried x.is in
     omega arith)
     (λ (there : is_held ts u ≡ true).
-    let less : told r + 1 ≤ told (turns K lines r ts) = later there in
-    let e : told (turns K lines (turn K lines r t) ts) ≡ told (turns K lines r ts) = ap (λ y. told (turns K lines y ts)) same in
+    let less : told_count r + 1 ≤ told_count (turns K lines r ts) = later there in
+    let e : told_count (turns K lines (turn K lines r t) ts) ≡ told_count (turns K lines r ts) = ap (λ y. told_count (turns K lines y ts)) same in
     omega arith)
     (or_cases _ _ among))
-    (λ (more : told (turn K lines r t) ≡ told r + 1). omega arith) (turn_told K lines r t)
+    (λ (more : told_count (turn K lines r t) ≡ told_count r + 1). omega arith) (turn_told K lines r t)
 
 -- a round has a turn of each thread
 among_range : (a k u : ℕ) → a ≤ u → u < a + k → is_held (range_with_len a k) u ≡ true
@@ -192,18 +178,19 @@ among_range a (suc k) u low high =
 
 -- ---- some thread goes on
 
+-- a thread that has ended has no next line
+pub ended_next : (lines : List ScriptLine) (s : ThreadState) → HasEnded lines s → next_line lines s ≡ None
+ended_next lines s ended = slice_get_past lines (length s.said) (omega (arith, ended))
+
 -- a thread that goes on, as it is said of a state
 tells_some : (K : Modelling) (lines : List (List ScriptLine)) (r : RunState) (t : ℕ) (x : Tells K lines r t) → SomeGoesOn lines r
 tells_some K lines r t x = record {
   thread = t;
   state = x.state;
   is = x.is;
-  unfinished = λ ended. let room = slice_get_within (lines_at lines t) (length x.state.said) x.line x.next in no_room (length x.state.said) (length (lines_at lines t)) ended room;
+  unfinished = λ ended. none-some x.line (sym (ended_next (lines_at lines t) x.state ended) ∙ x.next);
   free = tells_free K lines r t x;
 }
-  where
-    no_room : (a b : ℕ) → a ≡ b → a < b → ⊥
-    no_room a b e l = omega arith
 
 -- Some thread's next line does not wait.
 pub record SomeTells (K : Modelling) (lines : List (List ScriptLine)) (r : RunState) : Type 0 where
@@ -217,18 +204,6 @@ record Beyond (lines : List (List ScriptLine)) (r : RunState) (p : ℕ) : Type 0
   blocked : IsBlocked (lines_at lines thread) r.world state
   greater : p < blocked.partition
   within : blocked.partition ≤ length r.world.partitions
-
--- a lock that is not refused is above all that the thread holds
-lock_above : (n : ℕ) (s : ThreadState) (p q : ℕ) → refusal_of_order n (walker_now s) (Lock q) ≡ None → is_held s.held p ≡ true → p < q
-lock_above n s p q h held =
-    let allowed = lock_allowed n s q h in
-    let least : greatest s.held ≤ q = ltb-false q (greatest s.held) allowed.above in
-    let most : p ≤ greatest s.held = held_le_greatest s.held p held in
-    ⊎_elim (λ (same : p ≡ q). absurd (true≢false (sym held ∙ ap (is_held s.held) same ∙ allowed.new)))
-    (λ (differ : p ≢ q). less p q (greatest s.held) least most differ) (cases_eq p q)
-  where
-    less : (p q g : ℕ) → g ≤ q → p ≤ g → p ≢ q → p < q
-    less p q g low high differ = ⊎_elim (λ (l : p < q). l) (λ (m : q ≤ p). absurd (differ (omega arith))) (cases_lt p q)
 
 -- what the next line of a blocked thread may ask for
 blocked_allowed : (lines : List ScriptLine) (w : WorldState) (s : ThreadState) (b : IsBlocked lines w s) → refusal_of_order (length w.partitions) (walker_now s) (Lock b.partition) ≡ None
@@ -245,13 +220,13 @@ holder_goes_on K script r t s running b =
     let unfinished : HasEnded (lines_at lines b.holder) owner.state → ⊥ = λ ended.
     true≢false (sym owner.held ∙ ap (λ held. is_held held b.partition) (running.telling.ended b.holder owner.state owner.is ended)) in
     ⊎_elim (λ (c : IsBlocked (lines_at lines b.holder) r.world owner.state).
-    let allowed = blocked_allowed (lines_at lines b.holder) r.world owner.state c in
+    let asked = lock_allowed n owner.state c.partition (blocked_allowed (lines_at lines b.holder) r.world owner.state c) in
     inr (record {
       thread = b.holder;
       state = owner.state;
       blocked = c;
-      greater = lock_above n owner.state b.partition c.partition allowed owner.held;
-      within = (lock_allowed n owner.state c.partition allowed).within.1;
+      greater = omega (arith, held_le_greatest owner.state.held b.partition owner.held, asked.above);
+      within = asked.within.1;
     }))
     (λ (x : Tells K lines r b.holder). inl (record { thread = b.holder; tells = x }))
     (blocked_or_tells K lines r b.holder owner.state owner.is (running.telling.within b.holder owner.state owner.is) unfinished)
@@ -291,28 +266,9 @@ some_goes_on K script r t s running is unfinished =
 
 -- ---- all have ended
 
--- a turn of a thread that is not there, or that has ended, changes nothing
-pub idle_turn : (K : Modelling) (lines : List (List ScriptLine)) (r : RunState) (t : ℕ) → ((s : ThreadState) → thread_at r.threads t ≡ Some s → HasEnded (lines_at lines t) s) → turn K lines r t ≡ r
-idle_turn K lines r t ended =
-    elim (thread_at r.threads t) as (λ (o : Option ThreadState). thread_at r.threads t ≡ o → elim o as (λ (_ : Option ThreadState). RunState) [ None ↦ r | Some s ↦ turn_of K (lines_at lines t) r t s ] ≡ r) [
-      | None ↦ λ is. refl
-      | Some s ↦ λ is.
-          let none : next_line (lines_at lines t) s ≡ None = slice_get_past (lines_at lines t) (length s.said) (all_told (length s.said) (length (lines_at lines t)) (ended s is)) in
-          ap (λ (o : Option ScriptLine). elim o as (λ (_ : Option ScriptLine). RunState) [ None ↦ r | Some line ↦ option_map_or (goes_on r t s line.number) (obey K t r.world s line.order) r ]) none
-    ] refl
-  where
-    all_told : (a b : ℕ) → a ≡ b → b ≤ a
-    all_told a b e = omega arith
-
--- once all threads have ended, turns change nothing
-pub ended_turns : (K : Modelling) (lines : List (List ScriptLine)) (r : RunState) (ts : List ℕ) → HaveEnded lines r → turns K lines r ts ≡ r
-ended_turns K lines r [] ended = refl
-ended_turns K lines r (t ∷ ts) ended = ap (λ x. turns K lines x ts) (idle_turn K lines r t (ended t)) ∙ ended_turns K lines r ts ended
-
--- nor rounds
-pub ended_rounds : (K : Modelling) (lines : List (List ScriptLine)) (r : RunState) (k : ℕ) → HaveEnded lines r → rounds K lines r k ≡ r
-ended_rounds K lines r zero ended = refl
-ended_rounds K lines r (suc k) ended = ap (λ x. rounds K lines x k) (ended_turns K lines r (range_with_len 1 (length lines)) ended) ∙ ended_rounds K lines r k ended
+-- where all have ended, none has one
+pub all_ended : (lines : List (List ScriptLine)) (r : RunState) → HaveEnded lines r → NoneNext lines r
+all_ended lines r ended t s is = ended_next (lines_at lines t) s (ended t s is)
 
 -- ---- every script ends
 
@@ -347,7 +303,7 @@ first_and_rest f g d x xs y ys e rest (suc i) z h = rest i z h
 
 -- all items count just as much, or some counts less
 equal_or_short : {X Y : Type 0} (f : X → ℕ) (g : Y → ℕ) (d : Y) (xs : List X) (ys : List Y) → length xs ≡ length ys → AtMost f g d xs ys → Equal f g d xs ys ⊎ Short f g d xs ys
-equal_or_short f g d [] [] count most = inl (λ i x h. absurd (none_some x h))
+equal_or_short f g d [] [] count most = inl (λ i x h. absurd (none-some x h))
 equal_or_short f g d [] (y ∷ ys) count most = absurd (omega arith)
 equal_or_short f g d (x ∷ xs) [] count most = absurd (omega arith)
 equal_or_short f g d (x ∷ xs) (y ∷ ys) count most =
@@ -368,7 +324,7 @@ pub record SomeUnfinished (lines : List (List ScriptLine)) (r : RunState) : Type
   pub state : ThreadState
   pub is : thread_at r.threads thread ≡ Some state
   pub unfinished : HasEnded (lines_at lines thread) state → ⊥
-  pub fewer : told r < line_count lines
+  pub fewer : told_count r < line_count lines
 
 -- all threads have ended, or some has not
 pub ended_or_unfinished : (lines : List (List ScriptLine)) (r : RunState) → IsTelling lines r → HaveEnded lines r ⊎ SomeUnfinished lines r
@@ -399,7 +355,7 @@ ended_or_unfinished lines r telling =
     not_less a b e l = omega arith
 
 -- each round tells a line more, as long as some thread has not ended
-round_tells : (K : Modelling) (script : Script) (r : RunState) → IsRunning K script r → SomeUnfinished script.threads r → told r + 1 ≤ told (turns K script.threads r (range_with_len 1 (length script.threads)))
+round_tells : (K : Modelling) (script : Script) (r : RunState) → IsRunning K script r → SomeUnfinished script.threads r → told_count r + 1 ≤ told_count (turns K script.threads r (range_with_len 1 (length script.threads)))
 round_tells K script r running x =
     let lines = script.threads in
     let y = some_tells K script r x.thread x.state running x.is x.unfinished in
@@ -409,7 +365,7 @@ round_tells K script r running x =
     turns_tell K lines r y.thread (range_with_len 1 (length lines)) y.tells (among_range 1 (length lines) y.thread one (omega arith))
 
 -- as many rounds as lines are left are enough
-pub rounds_end : (K : Modelling) (script : Script) (k : ℕ) (r : RunState) → IsModeller K → IsWellFormed script → IsRunning K script r → line_count script.threads ≤ told r + k → HaveEnded script.threads (rounds K script.threads r k)
+pub rounds_end : (K : Modelling) (script : Script) (k : ℕ) (r : RunState) → IsModeller K → IsWellFormed script → IsRunning K script r → line_count script.threads ≤ told_count r + k → HaveEnded script.threads (rounds K script.threads r k)
 rounds_end K script zero r good formed running enough =
     ⊎_elim (λ (all : HaveEnded script.threads r). all)
     (λ (x : SomeUnfinished script.threads r). absurd (let fewer = x.fewer in omega arith)) (ended_or_unfinished script.threads r running.telling)
@@ -418,7 +374,7 @@ rounds_end K script (suc k) r good formed running enough =
     let round = range_with_len 1 (length lines) in
     let mid = turns K lines r round in
     let more = rounds_end K script k mid good formed (turns_running K script r round good formed running) in
-    ⊎_elim (λ (all : HaveEnded lines r). subst (HaveEnded lines) (sym (ended_rounds K lines r (suc k) all)) all)
+    ⊎_elim (λ (all : HaveEnded lines r). subst (HaveEnded lines) (sym (idle_rounds K lines r (suc k) (all_ended lines r all))) all)
     (λ (x : SomeUnfinished lines r). let tells = round_tells K script r running x in more (omega arith)) (ended_or_unfinished lines r running.telling)
 
 -- the run of a well formed script ends

@@ -6,7 +6,7 @@ use Rattle.std.specs.Option.{option_map_or}
 use Rattle.std.specs.Result.{result_map_both}
 use Rattle.std.specs.List.{AllByRecursion}
 use Rattle.std.proofs.lemmas.Bool.{eq-eqb, eqb-true, le-leb, leb-true, leb-false, or_cases, or_from, or_left, or_parts, true≢false}
-use Rattle.std.proofs.lemmas.Option.{same_Some, cond_some}
+use Rattle.std.proofs.lemmas.Option.{same_Some, cond_some, none-some}
 use Rattle.std.proofs.lemmas.List.{get_or-set_same, get_or-set_other, length-set, length-append}
 use Rattle.pk_base.specs.declared.act.Act.{Act}
 use Rattle.pk_base.specs.declared.act.Act.TheVariants as act
@@ -28,13 +28,13 @@ use Rattle.world_core.specs.declared.event.Said.{Said}
 use Rattle.world_core.specs.declared.event.Said.TheVariants as said
 use Rattle.world_core.specs.declared.event.WorldNo.{WorldNo}
 use Rattle.world_core.specs.declared.event.WorldNo.TheVariants as no
-use Rattle.world_core.specs.Event.{Supply, entry_of, said_of, partition_of}
-use Rattle.world_core.specs.World.{WorldPartition, WorldState, Happening, IsAsLarge, world_step, partition_at, opened, with_entry, after_draw}
+use Rattle.world_core.specs.Event.{Supply, entry_of, partition_of}
+use Rattle.world_core.specs.World.{WorldPartition, WorldState, Happening, IsAsLarge, happening_by, step_by, world_step, partition_at, opened, with_entry, after_draw}
 use Rattle.world_core.specs.Session.{IsSession}
 use Rattle.world_core.specs.Runs.{after_event}
 use Rattle.world_core.proofs.Sessions.{owns_below, replays_at, step_kept}
 use Rattle.script_text.specs.Walk.{is_held}
-use Rattle.serial_run.specs.Serial.{Acted, Drawn, act_after, acts, answer_of, by, draws, released}
+use Rattle.serial_run.specs.Serial.{Drawn, act_after, acts, acts_by, by, draws, released}
 use Rattle.serial_run.specs.Reached.{IsHeldBy}
 
 -- ---- one event
@@ -43,7 +43,7 @@ use Rattle.serial_run.specs.Reached.{IsHeldBy}
 -- this entry. All other partitions stay, and the world is a session again, as large.
 pub record EventDone (K : Modelling) (w : WorldState) (t : ℕ) (v : Event) (e : Entry) (r : Stepped) : Type 0 where
   pub steps : step K (partition_at w (partition_of v)).state e ≡ Some r
-  pub happens : world_step K w t v ≡ Some (record { world = with_entry w (partition_of v) e r.state; answer = said_of e r.answer })
+  pub happens : world_step K w t v ≡ Some (happening_by w (partition_of v) e r)
   pub after : after_event K w (by t v) ≡ with_entry w (partition_of v) e r.state
   pub session : IsSession K (after_event K w (by t v))
   pub large : IsAsLarge w (after_event K w (by t v))
@@ -57,28 +57,20 @@ after_draw-last : (blocks : Supply) (o : Option ℕ) → (after_draw blocks o).l
 after_draw-last blocks None = refl
 after_draw-last blocks (Some b) = refl
 
--- the world's step, where the event on partition p asks for this
-abbrev step_by : Modelling → WorldState → ℕ → Result Entry WorldNo → Option Happening
-step_by K w p asked = elim asked [
-  | Err e ↦ Some (record { world = w; answer = Err e })
-  | Ok e ↦ option_map (λ (r : Stepped). record { world = with_entry w p e r.state; answer = said_of e r.answer }) (step K (partition_at w p).state e)
-]
-
 -- an event is done where it asks for an entry whose step is defined
 pub event_done : (K : Modelling) → IsModeller K → (w : WorldState) (t : ℕ) (v : Event) (e : Entry) (r : Stepped) → IsSession K w → 1 ≤ partition_of v → partition_of v ≤ length w.partitions → entry_of (partition_at w (partition_of v)).state w.blocks t v ≡ Ok e → step K (partition_at w (partition_of v)).state e ≡ Some r → EventDone K w t v e r
 event_done K good w t v e r session first last asked steps =
     let p = partition_of v in
     let place : p - 1 < length w.partitions = omega arith in
     let new : WorldPartition = record { state = r.state; journal = (partition_at w p).journal ++ e ∷ [] } in
-    let gives : Stepped → Happening = λ r. record { world = with_entry w p e r.state; answer = said_of e r.answer } in
-    let happens : world_step K w t v ≡ Some (gives r) = ap (step_by K w p) asked ∙ ap (option_map gives) steps in
+    let happens : world_step K w t v ≡ Some (happening_by w p e r) = ap (step_by K w p) asked ∙ ap (option_map (happening_by w p e)) steps in
     let after : after_event K w (by t v) ≡ with_entry w p e r.state = ap (λ o. option_map_or (λ (h : Happening). h.world) o w) happens in
     let here : partition_at (with_entry w p e r.state) p ≡ new = get_or-set_same w.partitions (p - 1) new (opened p) place in
     record {
       steps = steps;
       happens = happens;
       after = after;
-      session = subst (IsSession K) (sym after) (step_kept K good w t v session first last (gives r) happens);
+      session = subst (IsSession K) (sym after) (step_kept K good w t v session first last (happening_by w p e r) happens);
       large = subst (IsAsLarge w) (sym after) (record {
         partitions = length-set w.partitions (p - 1) new;
         threads = refl;
@@ -170,10 +162,13 @@ pub record AltersOne (K : Modelling) (p : ℕ) (old new : WorldState) : Type 0 w
   pub large : IsAsLarge old new
   pub others : (q : ℕ) → 1 ≤ q → q ≢ p → partition_at new q ≡ partition_at old q
 
+pub IsAsLarge-refl : (w : WorldState) → IsAsLarge w w
+IsAsLarge-refl w = record { partitions = refl; threads = refl; last = refl }
+
 pub AltersOne-refl : (K : Modelling) (p : ℕ) (w : WorldState) → IsSession K w → AltersOne K p w w
 AltersOne-refl K p w session = record {
   session = session;
-  large = record { partitions = refl; threads = refl; last = refl };
+  large = IsAsLarge-refl w;
   others = λ q one other. refl;
 }
 
@@ -195,13 +190,17 @@ AltersOne-trans K p a b c x y = record {
 pub done_alters : (K : Modelling) (w : WorldState) (t : ℕ) (v : Event) (e : Entry) (r : Stepped) → EventDone K w t v e r → AltersOne K (partition_of v) w (after_event K w (by t v))
 done_alters K w t v e r d = record { session = d.session; large = d.large; others = d.others }
 
+-- who holds a partition still does, where it is as it was
+held_same : (old new : WorldState) (u q : ℕ) → IsAsLarge old new → partition_at new q ≡ partition_at old q → IsHeldBy old u q → IsHeldBy new u q
+held_same old new u q large same h = record {
+  first = h.first;
+  last = omega (arith, large.partitions, h.last);
+  holder = ap (λ (k : WorldPartition). k.state.holder) same ∙ h.holder;
+}
+
 -- who holds another partition still does
 pub held_still : (K : Modelling) (p u q : ℕ) (old new : WorldState) → AltersOne K p old new → q ≢ p → IsHeldBy old u q → IsHeldBy new u q
-held_still K p u q old new x other h = record {
-  first = h.first;
-  last = let n = x.large.partitions in let l = h.last in omega arith;
-  holder = ap (λ (k : WorldPartition). k.state.holder) (x.others q h.first other) ∙ h.holder;
-}
+held_still K p u q old new x other h = held_same old new u q x.large (x.others q h.first other) h
 
 -- and did before
 pub held_before : (K : Modelling) (p u q : ℕ) (old new : WorldState) → AltersOne K p old new → q ≢ p → IsHeldBy new u q → IsHeldBy old u q
@@ -318,7 +317,7 @@ drew-holder : (K : Modelling) (s : PartitionState) (t b : ℕ) (r : Stepped) →
 drew-holder K s t b r is = let c = cond_some _ _ r is in ap (λ (x : Stepped). x.state.holder) (sym c.1)
 
 -- the entry's step was defined, and left the holder as it was
-entry_held : (w after : WorldState) (t p : ℕ) (e : Entry) (answer : Result Said WorldNo) (o : Option Stepped) → IsHeldBy w t p → ((r : Stepped) → o ≡ Some r → r.state.holder ≡ (partition_at w p).state.holder) → option_map {U = Happening} (λ (r : Stepped). record { world = with_entry w p e r.state; answer = said_of e r.answer }) o ≡ Some (record { world = after; answer = answer }) → IsHeldBy after t p
+entry_held : (w after : WorldState) (t p : ℕ) (e : Entry) (answer : Result Said WorldNo) (o : Option Stepped) → IsHeldBy w t p → ((r : Stepped) → o ≡ Some r → r.state.holder ≡ (partition_at w p).state.holder) → option_map (happening_by w p e) o ≡ Some (record { world = after; answer = answer }) → IsHeldBy after t p
 entry_held w after t p e answer None held keeps h = absurd (cc)
 entry_held w after t p e answer (Some r) held keeps h =
     let new : WorldPartition = record { state = r.state; journal = (partition_at w p).journal ++ e ∷ [] } in
@@ -327,7 +326,7 @@ entry_held w after t p e answer (Some r) held keeps h =
     let place : p - 1 < length w.partitions = omega arith in
     let count = length-set w.partitions (p - 1) new in
     let stays : p ≤ length (with_entry w p e r.state).partitions = omega arith in
-    let is : record { world = with_entry w p e r.state; answer = said_of e r.answer } ≡ record { world = after; answer = answer } = same_Some _ _ h in
+    let is : happening_by w p e r ≡ record { world = after; answer = answer } = same_Some _ _ h in
     subst (λ (x : Happening). IsHeldBy x.world t p) is (record {
       first = first;
       last = stays;
@@ -385,10 +384,7 @@ pub act_after_done : (K : Modelling) → IsModeller K → (w : WorldState) (t p 
 act_after_done K good w t p a drawn x =
     let mid = drawn.world in
     let s = (partition_at mid p).state in
-    elim drawn.spent as (λ (o : Option ℕ). drawn.spent ≡ o → ActsDone K t p w (elim o as (λ (_ : Option ℕ). Acted) [
-      | None ↦ record { world = after_event K mid (by t (event.Act p a)); answer = answer_of K s a }
-      | Some next ↦ record { world = after_event K mid (by t (event.GiveUp p a next)); answer = Err (refusal.TagsSpent next) }
-    ]).world) [
+    elim drawn.spent as (λ (o : Option ℕ). drawn.spent ≡ o → ActsDone K t p w (acts_by K t p a mid o).world) [
       | None ↦ λ is. event_after K t p a w drawn (event.Act p a) (Did t a) (with_answer s (reach_of K s a)) x refl (act_done K good mid t p a x.alters.session x.held (x.enough is)) (reach-holder K s a)
       | Some next ↦ λ is. event_after K t p a w drawn (event.GiveUp p a next) (Spent t next a) (gave_up s next) x refl (give_up_done K good mid t p a next x.alters.session x.held (x.missing next is)) refl
     ] refl
@@ -423,9 +419,6 @@ holder_by (Some h) t is = ap Some (eqb-true h t is)
 pub holds_holder : (s : PartitionState) (t : ℕ) → holds s t ≡ true → s.holder ≡ Some t
 holds_holder s t h = holder_by s.holder t h
 
-pub none_some : {X : Type 0} (x : X) → None ≡ Some x → ⊥
-none_some x h = cc
-
 only_one : (p q : ℕ) → is_held (p ∷ []) q ≡ true → q ≡ p
 only_one p q h = ⊎_elim (λ (e : (p == q) ≡ true). sym (eqb-true p q e)) (λ (e : false ≡ true). absurd (true≢false (sym e))) (or_cases _ _ h)
 
@@ -436,7 +429,7 @@ release_held K good w t p session held =
     let s = (partition_at w p).state in
     let d = release_done K good w t p session held in
     let alters = done_alters K w t (event.Release p) (Released t) (freed s) d in
-    let nobody : (u : ℕ) → IsHeldBy new u p → ⊥ = λ u h. none_some u (ap (λ (x : PartitionState). x.holder) (sym d.state) ∙ h.holder) in
+    let nobody : (u : ℕ) → IsHeldBy new u p → ⊥ = λ u h. none-some u (ap (λ (x : PartitionState). x.holder) (sym d.state) ∙ h.holder) in
     record {
       session = d.session;
       large = d.large;
@@ -450,12 +443,11 @@ release_held K good w t p session held =
 release_other : (K : Modelling) (w : WorldState) (t p : ℕ) → IsSession K w → holds (partition_at w p).state t ≡ false → ReleasesDone K t (p ∷ []) w (after_event K w (by t (event.Release p)))
 release_other K w t p session not =
     let s = (partition_at w p).state in
-    let gives : Stepped → Happening = λ r. record { world = with_entry w p (Released t) r.state; answer = said_of (Released t) r.answer } in
     let same : after_event K w (by t (event.Release p)) ≡ w =
-    ap (λ b. option_map_or (λ (h : Happening). h.world) (option_map gives (cond b (without_answer (record s { holder = None })) None)) w) not in
+    ap (λ b. option_map_or (λ (h : Happening). h.world) (option_map (happening_by w p (Released t)) (cond b (without_answer (record s { holder = None })) None)) w) not in
     subst (ReleasesDone K t (p ∷ []) w) (sym same) (record {
       session = session;
-      large = record { partitions = refl; threads = refl; last = refl };
+      large = IsAsLarge-refl w;
       others = λ q one other. refl;
       kept = λ u q differ h. h;
       before = λ u q h. h;
@@ -489,7 +481,7 @@ releases_more K t p ps w mid new x y = record {
 pub releases_done : (K : Modelling) → IsModeller K → (w : WorldState) (t n : ℕ) (ps : List ℕ) → IsSession K w → length w.partitions ≡ n → AllByRecursion (λ p. (1 ≤ p) × (p ≤ n)) ps → ReleasesDone K t ps w (released K t ps w)
 releases_done K good w t n [] session count within = record {
   session = session;
-  large = record { partitions = refl; threads = refl; last = refl };
+  large = IsAsLarge-refl w;
   others = λ q one other. refl;
   kept = λ u q differ h. h;
   before = λ u q h. h;
@@ -501,15 +493,15 @@ releases_done K good w t n (p ∷ ps) session count within =
     let x = release_any K good w t p session within.0.0 (omega (arith, last, count)) in
     releases_more K t p ps w mid (released K t ps mid) x (releases_done K good mid t n ps x.session (x.large.partitions ∙ count) within.1)
 
--- what holds of each by two facts of it
-all_by_both : (P Q R : ℕ → Type 0) → ((q : ℕ) → P q → Q q → R q) → (qs : List ℕ) → AllByRecursion P qs → AllByRecursion Q qs → AllByRecursion R qs
-all_by_both P Q R f [] p q = tt
-all_by_both P Q R f (x ∷ xs) p q = (f x p.0 q.0, all_by_both P Q R f xs p.1 q.1)
+-- those that are above p are still held, where p alone has changed
+pub held_above : (old new : WorldState) (t p : ℕ) (ps : List ℕ) → IsAsLarge old new → ((q : ℕ) → 1 ≤ q → q ≢ p → partition_at new q ≡ partition_at old q) → AllByRecursion (λ q. p < q) ps → AllByRecursion (IsHeldBy old t) ps → AllByRecursion (IsHeldBy new t) ps
+held_above old new t p [] large others above held = tt
+held_above old new t p (q ∷ qs) large others above held =
+    let other : q ≢ p = λ e. absurd (omega (arith, above.0, e)) in
+    (held_same old new t q large (others q held.0.first other) held.0, held_above old new t p qs large others above.1 held.1)
 
 -- once the first of the partitions held is released, which ascend, the others are still held
 pub rest_held : (K : Modelling) → IsModeller K → (w : WorldState) (t p : ℕ) (ps : List ℕ) → IsSession K w → AllByRecursion (IsHeldBy w t) (p ∷ ps) → Ascends (p ∷ ps) → AllByRecursion (IsHeldBy (after_event K w (by t (event.Release p))) t) ps
 rest_held K good w t p ps session held up =
-    let new = after_event K w (by t (event.Release p)) in
     let d = release_done K good w t p session held.0 in
-    let alters = done_alters K w t (event.Release p) (Released t) (freed (partition_at w p).state) d in
-    all_by_both (IsHeldBy w t) (λ q. p < q) (IsHeldBy new t) (λ q h above. held_still K p t q w new alters (λ (e : q ≡ p). absurd (omega (arith, above, e))) h) ps held.1 up.0
+    held_above w (after_event K w (by t (event.Release p))) t p ps d.large d.others up.0 held.1

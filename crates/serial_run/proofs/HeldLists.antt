@@ -1,13 +1,12 @@
 -- The lists of the partitions that a thread holds.
-use Rattle.std.proofs.Common.{◌≡◌, ℕ, ◌<◌, ◌≤◌, max, ⊎_elim, Bool, true, false, not, cond, List, [], ◌∷◌, ◌++◌, filter, refl, sym, ap, subst, ◌∙◌, arith}
-use Rattle.std.specs.Prelude.{◌≢◌, ◌==◌, nat_lt, fold}
+use Rattle.std.proofs.Common.{◌≡◌, ℕ, ◌+◌, ◌<◌, ◌≤◌, max, ◌⊎◌, inl, inr, ⊎_elim, Bool, true, false, not, cond, List, [], ◌∷◌, ◌++◌, filter, length, refl, sym, ap, subst, ◌∙◌, arith}
+use Rattle.std.specs.Prelude.{◌≢◌, ◌==◌, ◌||◌, nat_le, nat_lt, fold}
 use Rattle.std.specs.List.{AllByRecursion}
-use Rattle.std.proofs.lemmas.Bool.{cases_order, eq-eqb, eqb-true, lt-ltb, ltb-true, ne_eqb, or_cases, or_left, or_right, true≢false}
+use Rattle.std.proofs.lemmas.Bool.{cases_lt, cases_order, eq-eqb, eqb-true, leb-false, leb-true, le-ltb, lt-ltb, ltb-true, ne_eqb, or_cases, or_left, or_right, true≢false}
 use Rattle.std.proofs.lemmas.List.Folds.{list_any-append}
 use Rattle.std.proofs.lemmas.Map.Views.{any-filter_same}
 use Rattle.pk_model.specs.Tags.{Ascends}
-use Rattle.pk_model.proofs.TagLists.{ByRecursion-append, ByRecursion-weaker}
-use Rattle.entity_store.proofs.Ascending.{ByRecursion-filter}
+use Rattle.list_facts.proofs.Each.{ByRecursion-filter, ByRecursion-append, ByRecursion-weaker}
 use Rattle.script_text.specs.Walk.{greatest, is_held, with_held, without_held}
 
 -- what holds of all that are held holds of each
@@ -69,7 +68,8 @@ all_without P p (x ∷ held) f =
 
 -- ---- ascending
 
-Ascends-filter : (test : ℕ → Bool) (xs : List ℕ) → Ascends xs → Ascends (filter test xs)
+-- some of them ascend too
+pub Ascends-filter : (test : ℕ → Bool) (xs : List ℕ) → Ascends xs → Ascends (filter test xs)
 Ascends-filter test [] h = tt
 Ascends-filter test (x ∷ xs) h =
     let rest = Ascends-filter test xs h.1 in
@@ -110,3 +110,57 @@ fold_max-each a (x ∷ xs) q h =
 -- none that is held is above the greatest
 pub held_le_greatest : (held : List ℕ) (q : ℕ) → is_held held q ≡ true → q ≤ greatest held
 held_le_greatest held q h = fold_max-each 0 held q h
+
+-- the greatest of some numbers and m is m, or one of them
+greatest_among : (m : ℕ) (ps : List ℕ) → (fold max m ps ≡ m) ⊎ (is_held ps (fold max m ps) ≡ true)
+greatest_among m [] = inl refl
+greatest_among m (p ∷ ps) = ⊎_elim
+    (λ (e : fold max (max m p) ps ≡ max m p). of_two (nat_le p m) refl e)
+    (λ (h : is_held ps (fold max (max m p) ps) ≡ true). inr (or_right (p == fold max (max m p) ps) (is_held ps (fold max (max m p) ps)) h))
+    (greatest_among (max m p) ps) where
+      of_two : (b : Bool) → nat_le p m ≡ b → fold max (max m p) ps ≡ max m p → (fold max (max m p) ps ≡ m) ⊎ (((p == fold max (max m p) ps) || is_held ps (fold max (max m p) ps)) ≡ true)
+      of_two true is e = let less : p ≤ m = leb-true p m is in inl (omega (arith, e, less))
+      of_two false is e =
+          let more : m < p = leb-false p m is in
+          let same : fold max (max m p) ps ≡ p = omega (arith, e, more) in
+          inr (or_left (p == fold max (max m p) ps) (is_held ps (fold max (max m p) ps)) (eq-eqb p (fold max (max m p) ps) (sym same)))
+
+-- a number that is not held, and not below the greatest, is above it
+pub above_greatest : (held : List ℕ) (p : ℕ) → 1 ≤ p → is_held held p ≡ false → greatest held ≤ p → greatest held < p
+above_greatest held p some new most = ⊎_elim
+    (λ (e : greatest held ≡ 0). omega (arith, e, some))
+    (λ (among : is_held held (greatest held) ≡ true). ⊎_elim
+    (λ (less : greatest held < p). less)
+    (λ (more : p ≤ greatest held). let same : greatest held ≡ p = omega (arith, most, more) in absurd (true≢false (sym among ∙ ap (is_held held) same ∙ new)))
+    (cases_lt (greatest held) p))
+    (greatest_among 0 held)
+
+-- ---- a number above all
+
+-- all are below what is above the greatest
+all_below : (m p : ℕ) (ps : List ℕ) → fold max m ps < p → filter (λ q. nat_lt q p) ps ≡ ps
+all_below m p [] above = refl
+all_below m p (q ∷ ps) above =
+    let less : q < p = omega (arith, above, fold_max-from (max m q) ps) in
+    ap (λ b. cond b (q ∷ filter (λ r. nat_lt r p) ps) (filter (λ r. nat_lt r p) ps)) (lt-ltb q p less)
+    ∙ ap (λ rs. q ∷ rs) (all_below (max m q) p ps above)
+
+-- and none is above it
+none_above : (m p : ℕ) (ps : List ℕ) → fold max m ps < p → filter (λ q. nat_lt p q) ps ≡ []
+none_above m p [] above = refl
+none_above m p (q ∷ ps) above =
+    let less : q ≤ p = omega (arith, above, fold_max-from (max m q) ps) in
+    ap (λ b. cond b (q ∷ filter (λ r. nat_lt p r) ps) (filter (λ r. nat_lt p r) ps)) (le-ltb p q less)
+    ∙ none_above (max m q) p ps above
+
+-- a partition above all that are held goes behind them
+pub with_greatest : (p : ℕ) (held : List ℕ) → greatest held < p → held ++ p ∷ [] ≡ with_held p held
+with_greatest p held above =
+    ap (λ qs. qs ++ p ∷ []) (sym (all_below 0 p held above))
+    ∙ ap (λ qs. filter (λ q. nat_lt q p) held ++ p ∷ qs) (sym (none_above 0 p held above))
+
+-- numbers that ascend from above low, to one below p, are fewer than p
+pub few_ascend : (low m p : ℕ) (ps : List ℕ) → Ascends (low ∷ ps) → fold max m ps < p → low < p → length ps + low < p
+few_ascend low m p [] h above less = omega (arith, less)
+few_ascend low m p (q ∷ ps) h above less =
+    omega (arith, h.0.0, few_ascend q (max m q) p ps h.1 above (omega (arith, above, fold_max-from (max m q) ps)))

@@ -12,12 +12,12 @@ use Rattle.pk_model.specs.State.{PartitionState}
 use Rattle.pk_model.specs.Modelling.{Modelling}
 use Rattle.pk_model.specs.Replay.{drawn_block, spent_number, thread_of}
 use Rattle.pk_model.specs.Sessions.{drawn_in}
-use Rattle.pk_model.proofs.TagLists.{ByRecursion-append, ByRecursion-get_or, ByRecursion-map, ByRecursion-weaker}
 use Rattle.partition.proofs.MarkLists.{ByRecursion-set}
 use Rattle.world_core.specs.Event.{Supply, partition_of}
 use Rattle.world_core.specs.World.{WorldPartition, WorldState, after_draw, opened, partition_at}
 use Rattle.world_core.specs.Session.{AreReplays, IsSession, journals_of}
 use Rattle.script_text.specs.LegalReport.{EachLegal, LegalJournals, spent_in}
+use Rattle.list_facts.proofs.Each.{ByRecursion-append, ByRecursion-left, ByRecursion-right, ByRecursion-weaker, ByRecursion-map, ByRecursion-get_or}
 use Rattle.serial_run.proofs.Kept.{EventsKeep}
 
 -- ---- what is known of each entry
@@ -68,18 +68,11 @@ entries_keep K t T first last w v e r x h =
     let grown : journal_entries after T new = ByRecursion-append (IsEntryOf after T) old.journal (e ∷ []) (ByRecursion-get_or (journal_entries after T) w.partitions (p - 1) (opened p) in' each) (this, tt) in
     subst (AreEntries T) (sym x.done.after) (ByRecursion-set (journal_entries after T) w.partitions (p - 1) new each grown)
 
--- ---- parts of lists
-
--- what holds of two lists together holds of each
-both_parts : {X : Type 0} (P : X → Type 0) (xs ys : List X) → AllByRecursion P (xs ++ ys) → AllByRecursion P xs × AllByRecursion P ys
-both_parts P [] ys h = (tt, h)
-both_parts P (x ∷ xs) ys h = let k = both_parts P xs ys h.1 in ((h.0, k.0), k.1)
+-- ---- one journal
 
 range_within : (a k n last : ℕ) → n < a → a + k ≤ last + 1 → AllByRecursion (λ b. (n < b) × (b ≤ last)) (range_with_len a k)
 range_within a zero n last h l = tt
 range_within a (suc k) n last h l = ((h, omega arith), range_within (a + 1) k n last (omega arith) (omega arith))
-
--- ---- one journal
 
 -- the numbers that it found spent are above the last block, by one
 spent_above : (blocks : Supply) (T : ℕ) (es : List Entry) → AllByRecursion (IsEntryOf blocks T) es → AllByRecursion (λ k. (blocks.last < k) × (k ≤ blocks.last + 65535)) (filter_map spent_number es)
@@ -110,12 +103,14 @@ is_free q = q.state.holder ≡ None
 pub each_legal : (K : Modelling) (p n T : ℕ) (blocks : Supply) (qs : List WorldPartition) → AreReplays K p qs → AllByRecursion is_free qs → AllByRecursion (λ b. (n < b) × (b ≤ blocks.last)) (drawn_in (map journal qs)) → AllByRecursion (journal_entries blocks T) qs → EachLegal K p n blocks.last (map journal qs)
 each_legal K p n T blocks [] replays free drawn entries = tt
 each_legal K p n T blocks (q ∷ qs) replays free drawn entries =
-    let parts = both_parts (λ b. (n < b) × (b ≤ blocks.last)) (filter_map drawn_block q.journal) (drawn_in (map journal qs)) drawn in (
+    let own = filter_map drawn_block q.journal in
+    let others = drawn_in (map journal qs) in
+    let within : ℕ → Type 0 = λ b. (n < b) × (b ≤ blocks.last) in (
       record {
-        legal = record { replays = subst IsSome (sym replays.0) (cc); drawn = parts.0; spent = spent_above blocks T q.journal entries.0 };
+        legal = record { replays = subst IsSome (sym replays.0) (cc); drawn = ByRecursion-left within own others drawn; spent = spent_above blocks T q.journal entries.0 };
         free = ap (option_map (λ (s : PartitionState). s.holder)) replays.0 ∙ ap (λ o. Some o) free.0;
       },
-      each_legal K (p + 1) n T blocks qs replays.1 free.1 parts.1 entries.1,
+      each_legal K (p + 1) n T blocks qs replays.1 free.1 (ByRecursion-right within own others drawn) entries.1,
     )
 
 all_spent_or_none : (blocks : Supply) (T : ℕ) (qs : List WorldPartition) → AllByRecursion (journal_entries blocks T) qs → (length (spent_in (map journal qs)) ≡ 0) ⊎ (blocks.next ≡ blocks.last + 1)

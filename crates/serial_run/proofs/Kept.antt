@@ -1,5 +1,5 @@
 -- What every event of a thread keeps, an order that it obeys keeps.
-use Rattle.std.proofs.Common.{◌≡◌, ℕ, zero, suc, ◌+◌, ◌<◌, ◌≤◌, Bool, true, false, cond, List, [], ◌∷◌, length, Option, None, Some, Err, refl, subst, arith}
+use Rattle.std.proofs.Common.{◌≡◌, ℕ, zero, suc, ◌+◌, ◌<◌, ◌≤◌, Bool, true, false, cond, List, [], ◌∷◌, length, Option, None, Some, refl, subst, arith}
 use Rattle.std.specs.Prelude.{MatchOption, nat_le}
 use Rattle.std.specs.List.{AllByRecursion}
 use Rattle.std.proofs.lemmas.Bool.{leb-true}
@@ -8,7 +8,6 @@ use Rattle.pk_base.specs.declared.act.Act.{Act}
 use Rattle.pk_base.specs.declared.act.Entry.{Entry}
 use Rattle.pk_base.specs.declared.act.Entry.TheVariants.{Claimed, Drew, Did, Spent, Released}
 use Rattle.pk_base.specs.declared.refusal.Refusal.{Refusal}
-use Rattle.pk_base.specs.declared.refusal.Refusal.TheVariants as refusal
 use Rattle.pk_model.specs.Modelling.{Modelling, IsModeller}
 use Rattle.pk_model.specs.Step.{reach_of, short, Stepped, with_answer}
 use Rattle.pk_model.specs.Replay.{drawn_block, spent_number, thread_of}
@@ -19,11 +18,10 @@ use Rattle.world_core.specs.Event.{partition_of}
 use Rattle.world_core.specs.World.{WorldState, partition_at}
 use Rattle.world_core.specs.Session.{IsSession}
 use Rattle.world_core.specs.Runs.{after_event}
-use Rattle.script_text.specs.Walk.{act_with_tags, refusal_of_order, with_held}
+use Rattle.script_text.specs.Walk.{act_with_tags, refusal_of_order}
 use Rattle.script_text.specs.declared.script.Order.{Order}
 use Rattle.script_text.specs.declared.script.Order.TheVariants.{Lock, Unlock, End, On}
-use Rattle.script_text.specs.declared.report.LineSaid.TheVariants.{Locked}
-use Rattle.serial_run.specs.Serial.{Acted, Carried, Drawn, ThreadState, acts, answer_of, by, carry, draws, obey, released, turned_away, walker_now}
+use Rattle.serial_run.specs.Serial.{Carried, Drawn, ThreadState, acts, acts_by, by, carry, draws, lock_by, obey, obey_by, released, walker_now}
 use Rattle.serial_run.specs.Reached.{IsHeldBy}
 use Rattle.serial_run.proofs.HeldLists.{held_each}
 use Rattle.serial_run.proofs.Turning.{act_allowed, lock_allowed, unlock_allowed}
@@ -91,14 +89,8 @@ module _ (K : Modelling) (good : IsModeller K) (t : ℕ) (P : WorldState → Typ
       let within = session.within in
       keep w (event.GiveUp p a next) (Spent t next a) (gave_up s next) (record { done = give_up_done K good w t p a next session held missing; session = session; first = held.first; last = held.last; thread = refl; draws = tt; spends = (omega (arith, is, within, above), omega (arith, is, within, above)) }) h
 
-  abbrev acted_by : ℕ → Act → Drawn → Option ℕ → Acted
-  acted_by p a drawn spent = elim spent [
-    | None ↦ record { world = after_event K drawn.world (by t (event.Act p a)); answer = answer_of K (partition_at drawn.world p).state a }
-    | Some next ↦ record { world = after_event K drawn.world (by t (event.GiveUp p a next)); answer = Err (refusal.TagsSpent next) }
-  ]
-
   -- an act that was drawn for
-  acted_keeps : (w : WorldState) (p : ℕ) (a : Act) (drawn : Drawn) → DrawsDone K t p a w drawn → P drawn.world → (o : Option ℕ) → drawn.spent ≡ o → P (acted_by p a drawn o).world
+  acted_keeps : (w : WorldState) (p : ℕ) (a : Act) (drawn : Drawn) → DrawsDone K t p a w drawn → P drawn.world → (o : Option ℕ) → drawn.spent ≡ o → P (acts_by K t p a drawn.world o).world
   acted_keeps w p a drawn dd h None is = did_keeps drawn.world p a dd.alters.session dd.held (dd.enough is) h
   acted_keeps w p a drawn dd h (Some next) is = gave_up_keeps drawn.world p a next dd.alters.session dd.held (dd.missing next is) (dd.next next is) (dd.above next is) h
 
@@ -111,13 +103,7 @@ module _ (K : Modelling) (good : IsModeller K) (t : ℕ) (P : WorldState → Typ
   -- ---- every order
 
   module _ (w : WorldState) (s : ThreadState) (session : IsSession K w) (all : AllByRecursion (IsHeldBy w t) s.held) (ascends : Ascends s.held) (h : P w) where
-    abbrev lock_by : ℕ → Option ℕ → Option Carried
-    lock_by p holder = elim holder [
-      | None ↦ Some (record { world = after_event K w (by t (event.Claim p)); held = with_held p s.held; names = s.names; said = Locked })
-      | Some u ↦ None
-    ]
-
-    lock_keeps : (p : ℕ) (c : Carried) → (1 ≤ p) × (p ≤ length w.partitions) → (o : Option ℕ) → (partition_at w p).state.holder ≡ o → lock_by p o ≡ Some c → P c.world
+    lock_keeps : (p : ℕ) (c : Carried) → (1 ≤ p) × (p ≤ length w.partitions) → (o : Option ℕ) → (partition_at w p).state.holder ≡ o → lock_by K t w s p o ≡ Some c → P c.world
     lock_keeps p c in' None is k = subst (λ (x : Carried). P x.world) (same_Some _ c k) (claim_keeps w p session in' is h)
     lock_keeps p c in' (Some u) is k = absurd (cc)
 
@@ -131,10 +117,10 @@ module _ (K : Modelling) (good : IsModeller K) (t : ℕ) (P : WorldState → Typ
         let own = held_each (IsHeldBy w t) s.held p all (act_allowed (length w.partitions) s p a operands bind none) in
         subst (λ (x : Carried). P x.world) (same_Some _ c k) (acts_keep w p (act_with_tags (walker_now s) a operands) session own h)
 
-    obey_by : (o : Order) (c : Carried) (q : Option Refusal) → refusal_of_order (length w.partitions) (walker_now s) o ≡ q → elim q as (λ (_ : Option Refusal). Option Carried) [ None ↦ carry K t w s o | Some r ↦ Some (turned_away w s r) ] ≡ Some c → P c.world
-    obey_by o c None is k = carry_keeps o c is k
-    obey_by o c (Some r) is k = subst (λ (x : Carried). P x.world) (same_Some _ c k) h
+    obey_keeps_by : (o : Order) (c : Carried) (q : Option Refusal) → refusal_of_order (length w.partitions) (walker_now s) o ≡ q → obey_by K t w s o q ≡ Some c → P c.world
+    obey_keeps_by o c None is k = carry_keeps o c is k
+    obey_keeps_by o c (Some r) is k = subst (λ (x : Carried). P x.world) (same_Some _ c k) h
 
     -- An order that the thread obeys keeps it.
     pub obey_keeps : (o : Order) (c : Carried) → obey K t w s o ≡ Some c → P c.world
-    obey_keeps o c k = obey_by o c (refusal_of_order (length w.partitions) (walker_now s) o) refl k
+    obey_keeps o c k = obey_keeps_by o c (refusal_of_order (length w.partitions) (walker_now s) o) refl k

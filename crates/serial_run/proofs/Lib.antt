@@ -1,9 +1,9 @@
-pub mod Holding
 pub mod Naming
 pub mod Events
 pub mod HeldLists
 pub mod Threads
 pub mod Turning
+pub mod Idle
 pub mod Owned
 pub mod Ends
 pub mod Longer
@@ -15,6 +15,5 @@ pub mod Journals
 pub mod Telling
 pub mod Legal
 pub mod Drawing
-pub mod Turned
 pub mod Ending
 pub mod Rounds

@@ -3,24 +3,23 @@ use Rattle.std.proofs.Common.{◌≡◌, ℕ, ◌+◌, ◌-◌, ◌<◌, ◌≤�
 use Rattle.std.specs.Prelude.{◌≢◌, slice_get}
 use Rattle.std.specs.List.{AllByRecursion}
 use Rattle.std.proofs.lemmas.Bool.{cases_eq}
-use Rattle.std.proofs.lemmas.Option.{same_Some, slice_get_within}
+use Rattle.std.proofs.lemmas.Option.{same_Some, slice_get_within, none-some}
 use Rattle.std.proofs.lemmas.List.{length-append, length-replicate, length-set}
 use Rattle.std.proofs.lemmas.List.FromFn.{get_or-map-range_with_len, length-map-range_with_len}
 use Rattle.pk_model.specs.Tags.{Ascends}
 use Rattle.pk_model.specs.Modelling.{Modelling, IsModeller}
-use Rattle.pk_model.proofs.TagLists.{ByRecursion-get_or}
+use Rattle.list_facts.proofs.Each.{ByRecursion-get_or}
 use Rattle.world_core.specs.World.{WorldPartition, WorldState, opened, partition_at}
 use Rattle.script_text.specs.Walk.{is_held}
 use Rattle.script_text.specs.declared.script.Script.{Script}
 use Rattle.script_text.specs.declared.script.ScriptLine.{ScriptLine}
 use Rattle.script_text.specs.declared.script.Order.{Order}
 use Rattle.script_text.specs.declared.script.Order.TheVariants.{End}
-use Rattle.serial_run.specs.Serial.{Carried, RunState, ThreadState, carry_end, fresh_thread, goes_on, lines_at, next_line, obey, rounds, run_begins, thread_at, turn, turns}
+use Rattle.serial_run.specs.Serial.{Carried, RunState, ThreadState, carry_end, fresh_thread, goes_on, lines_at, next_line, obey, rounds, run_begins, thread_at, told, turn, turns}
 use Rattle.serial_run.specs.WellFormed.{IsThread, IsWellFormed}
 use Rattle.serial_run.specs.Reached.{IsHeldBy, IsReached}
 use Rattle.serial_run.specs.Ends.{HasEnded}
-use Rattle.serial_run.proofs.Events.{none_some}
-use Rattle.serial_run.proofs.Threads.{goes_on-itself, goes_on-other, goes_on-threads, gone_on, thread_at-replicate, thread_at-within}
+use Rattle.serial_run.proofs.Threads.{goes_on-itself, goes_on-other, goes_on-threads, thread_at-replicate, thread_at-within}
 use Rattle.serial_run.proofs.Turning.{Obeyed, begins_reached, obeyed_reached, rounds_keep, turn_cases, turn_reached, turns_keep}
 
 -- ---- who holds a partition says so
@@ -46,7 +45,7 @@ nobody_holds script t p h =
     let place : p - 1 < n = omega arith in
     let number : 1 + (p - 1) ≡ p = omega arith in
     let is : partition_at w p ≡ opened p = get_or-map-range_with_len opened 1 n (p - 1) p (opened p) place number in
-    none_some t (sym (ap (λ (q : WorldPartition). q.state.holder) is) ∙ h.holder)
+    none-some t (sym (ap (λ (q : WorldPartition). q.state.holder) is) ∙ h.holder)
 
 pub begins_owned : (script : Script) → IsOwned (run_begins script)
 begins_owned script = record { owner = λ t p h. absurd (nobody_holds script t p h) }
@@ -65,7 +64,7 @@ goes_on-owned K r t s k c owned is x = record { owner = owner }
 
     itself : (u p : ℕ) → u ≡ t → IsHeldBy c.world u p → Owner (goes_on r t s k c) u p
     itself u p same h = record {
-      state = gone_on s k c;
+      state = told s k c;
       is = ap (thread_at (goes_on r t s k c).threads) same ∙ goes_on-itself r t s k c is;
       held = x.own was p (subst (λ v. IsHeldBy c.world v p) same h);
     }
@@ -93,7 +92,7 @@ begins_ascending script = record {
 goes_on-ascending : (K : Modelling) (r : RunState) (t : ℕ) (s : ThreadState) (k : ℕ) (c : Carried) → HeldAscend r → thread_at r.threads t ≡ Some s → Obeyed K t r.world s c → HeldAscend (goes_on r t s k c)
 goes_on-ascending K r t s k c ascending is x = record {
   ascends = λ u y there.
-      ⊎_elim (λ (same : (u ≡ t) × (y ≡ gone_on s k c)). subst (λ (z : ThreadState). Ascends z.held) (sym same.1) (x.ascends (ascending.ascends t s is)))
+      ⊎_elim (λ (same : (u ≡ t) × (y ≡ told s k c)). subst (λ (z : ThreadState). Ascends z.held) (sym same.1) (x.ascends (ascending.ascends t s is)))
       (λ (other : (u ≢ t) × (thread_at r.threads u ≡ Some y)). ascending.ascends u y other.1) (goes_on-threads r t s k c is u y there);
 }
 
@@ -146,20 +145,20 @@ goes_on-telling K lines r t s line c all telling is next obeys =
     let there = thread_at-within r.threads t s is in
     let one = there.0 in
     let last : t ≤ length lines = let l = there.1 in let n = telling.count in omega arith in
-    let more : length (gone_on s k c).said ≡ length s.said + 1 = length-append s.said _ in
+    let more : length (told s k c).said ≡ length s.said + 1 = length-append s.said _ in
     let room : length s.said < length own = slice_get_within own (length s.said) line next in
-    let fits : length (gone_on s k c).said ≤ length own = omega arith in
-    let frees : HasEnded own (gone_on s k c) → c.held ≡ [] = λ told.
-    end_frees K t r.world s line.order c (last_line own (length s.said) line (lines_end lines t all one last) next (sym more ∙ told)) obeys in
+    let fits : length (told s k c).said ≤ length own = omega arith in
+    let frees : HasEnded own (told s k c) → c.held ≡ [] = λ full.
+    end_frees K t r.world s line.order c (last_line own (length s.said) line (lines_end lines t all one last) next (sym more ∙ full)) obeys in
     record {
-      count = length-set r.threads (t - 1) (gone_on s k c) ∙ telling.count;
+      count = length-set r.threads (t - 1) (told s k c) ∙ telling.count;
       within = λ u y at.
-          ⊎_elim (λ (same : (u ≡ t) × (y ≡ gone_on s k c)). subst (λ v. length y.said ≤ length (lines_at lines v)) (sym same.0) (subst (λ (z : ThreadState). length z.said ≤ length own) (sym same.1) fits))
+          ⊎_elim (λ (same : (u ≡ t) × (y ≡ told s k c)). subst (λ v. length y.said ≤ length (lines_at lines v)) (sym same.0) (subst (λ (z : ThreadState). length z.said ≤ length own) (sym same.1) fits))
           (λ (other : (u ≢ t) × (thread_at r.threads u ≡ Some y)). telling.within u y other.1) (goes_on-threads r t s k c is u y at);
-      ended = λ u y at told.
-          ⊎_elim (λ (same : (u ≡ t) × (y ≡ gone_on s k c)).
-          ap (λ (z : ThreadState). z.held) same.1 ∙ frees (subst (λ (z : ThreadState). HasEnded own z) same.1 (subst (λ v. HasEnded (lines_at lines v) y) same.0 told)))
-          (λ (other : (u ≢ t) × (thread_at r.threads u ≡ Some y)). telling.ended u y other.1 told) (goes_on-threads r t s k c is u y at);
+      ended = λ u y at full.
+          ⊎_elim (λ (same : (u ≡ t) × (y ≡ told s k c)).
+          ap (λ (z : ThreadState). z.held) same.1 ∙ frees (subst (λ (z : ThreadState). HasEnded own z) same.1 (subst (λ v. HasEnded (lines_at lines v) y) same.0 full)))
+          (λ (other : (u ≢ t) × (thread_at r.threads u ≡ Some y)). telling.ended u y other.1 full) (goes_on-threads r t s k c is u y at);
     }
 
 -- ---- all of it

@@ -1,11 +1,10 @@
 -- The threads of a run by their numbers, before and after one of them goes on.
-use Rattle.std.proofs.Common.{◌≡◌, ℕ, zero, suc, ◌-◌, ◌<◌, ◌≤◌, ⊎_elim, inl, inr, Bool, true, false, cond, List, [], ◌∷◌, ◌++◌, length, Some, None, refl, sym, ap, ◌∙◌, arith}
+use Rattle.std.proofs.Common.{◌≡◌, ℕ, zero, suc, ◌-◌, ◌<◌, ◌≤◌, ⊎_elim, inl, inr, Bool, true, false, cond, List, [], ◌∷◌, length, Some, None, refl, sym, ap, ◌∙◌, arith}
 use Rattle.std.specs.Prelude.{◌≢◌, ◌⊎◌, nat_le, replicate, slice_get, slice_set}
 use Rattle.std.proofs.lemmas.Bool.{cases_eq, le-leb, leb-true}
 use Rattle.std.proofs.lemmas.List.{get_or-replicate, length-replicate}
-use Rattle.std.proofs.lemmas.Option.{get_or_from_slice_get, same_Some, slice_get_within}
-use Rattle.serial_run.specs.Serial.{Carried, RunState, ThreadState, goes_on, thread_at}
-use Rattle.serial_run.proofs.Events.{none_some}
+use Rattle.std.proofs.lemmas.Option.{get_or_from_slice_get, same_Some, slice_get_within, none-some}
+use Rattle.serial_run.specs.Serial.{Carried, RunState, ThreadState, goes_on, thread_at, told}
 
 -- ---- lists
 
@@ -28,7 +27,7 @@ pub thread_at-within : (threads : List ThreadState) (t : ℕ) (s : ThreadState) 
 thread_at-within threads t s h =
     elim (nat_le 1 t) as (λ (b : Bool). nat_le 1 t ≡ b → cond b (slice_get threads (t - 1)) None ≡ Some s → (1 ≤ t) × (t ≤ length threads)) [
       | true ↦ λ is k. let one = leb-true 1 t is in let within = slice_get_within threads (t - 1) s k in (one, omega arith)
-      | false ↦ λ is k. absurd (none_some s k)
+      | false ↦ λ is k. absurd (none-some s k)
     ] refl h
 
 -- thread t stands in its place
@@ -58,25 +57,17 @@ thread_at-replicate n t x s h =
 
 -- ---- a thread goes on
 
--- the thread behind its line k, to which this was said
-abbrev pub gone_on : ThreadState → ℕ → Carried → ThreadState
-gone_on s k c = record {
-  held = c.held;
-  names = c.names;
-  said = s.said ++ record { number = k; said = c.said } ∷ [];
-}
-
--- thread t is then this one
-pub goes_on-itself : (r : RunState) (t : ℕ) (s : ThreadState) (k : ℕ) (c : Carried) → thread_at r.threads t ≡ Some s → thread_at (goes_on r t s k c).threads t ≡ Some (gone_on s k c)
-goes_on-itself r t s k c is = let within = thread_at-within r.threads t s is in thread_at-set_same r.threads t (gone_on s k c) within.0 within.1
+-- thread t is then the one that was told so
+pub goes_on-itself : (r : RunState) (t : ℕ) (s : ThreadState) (k : ℕ) (c : Carried) → thread_at r.threads t ≡ Some s → thread_at (goes_on r t s k c).threads t ≡ Some (told s k c)
+goes_on-itself r t s k c is = let within = thread_at-within r.threads t s is in thread_at-set_same r.threads t (told s k c) within.0 within.1
 
 -- and all others stay
 pub goes_on-other : (r : RunState) (t u : ℕ) (s : ThreadState) (k : ℕ) (c : Carried) → thread_at r.threads t ≡ Some s → u ≢ t → thread_at (goes_on r t s k c).threads u ≡ thread_at r.threads u
-goes_on-other r t u s k c is differ = thread_at-set_other r.threads t u (gone_on s k c) (thread_at-within r.threads t s is).0 differ
+goes_on-other r t u s k c is differ = thread_at-set_other r.threads t u (told s k c) (thread_at-within r.threads t s is).0 differ
 
 -- each thread is the one that went on, or was there before
-pub goes_on-threads : (r : RunState) (t : ℕ) (s : ThreadState) (k : ℕ) (c : Carried) → thread_at r.threads t ≡ Some s → (u : ℕ) (x : ThreadState) → thread_at (goes_on r t s k c).threads u ≡ Some x → ((u ≡ t) × (x ≡ gone_on s k c)) ⊎ ((u ≢ t) × (thread_at r.threads u ≡ Some x))
+pub goes_on-threads : (r : RunState) (t : ℕ) (s : ThreadState) (k : ℕ) (c : Carried) → thread_at r.threads t ≡ Some s → (u : ℕ) (x : ThreadState) → thread_at (goes_on r t s k c).threads u ≡ Some x → ((u ≡ t) × (x ≡ told s k c)) ⊎ ((u ≢ t) × (thread_at r.threads u ≡ Some x))
 goes_on-threads r t s k c is u x h =
     let after = goes_on r t s k c in
-    ⊎_elim (λ (same : u ≡ t). inl (same, same_Some x (gone_on s k c) (sym h ∙ ap (thread_at after.threads) same ∙ goes_on-itself r t s k c is)))
+    ⊎_elim (λ (same : u ≡ t). inl (same, same_Some x (told s k c) (sym h ∙ ap (thread_at after.threads) same ∙ goes_on-itself r t s k c is)))
     (λ (differ : u ≢ t). inr (differ, sym (goes_on-other r t u s k c is differ) ∙ h)) (cases_eq u t)

@@ -17,7 +17,7 @@ use Rattle.pk_model.specs.Step.{reach_of, short, Stepped, with_answer}
 use Rattle.pk_model.specs.Replay.{AnsweredEntry, thread_of}
 use Rattle.pk_model.specs.Tags.{Ascends}
 use Rattle.pk_model.proofs.Replays.{told_of}
-use Rattle.pk_model.proofs.TagLists.{ByRecursion-append}
+use Rattle.list_facts.proofs.Each.{ByRecursion-append}
 use Rattle.world_core.specs.declared.event.Event.{Event}
 use Rattle.world_core.specs.declared.event.Event.TheVariants as event
 use Rattle.world_core.specs.Event.{partition_of}
@@ -32,7 +32,7 @@ use Rattle.script_text.specs.declared.script.Operand.{Operand}
 use Rattle.script_text.specs.declared.report.Line.{Line}
 use Rattle.script_text.specs.declared.report.LineSaid.{LineSaid}
 use Rattle.script_text.specs.declared.report.LineSaid.TheVariants.{Locked, Unlocked, Refused}
-use Rattle.serial_run.specs.Serial.{Acted, Carried, Drawn, ThreadState, answer_of, by, carry, carry_act, carry_end, carry_unlock, draws, names_after, obey, released, turned_away, walker_now}
+use Rattle.serial_run.specs.Serial.{Acted, Carried, Drawn, ThreadState, acts_by, answer_of, by, carry, carry_act, carry_claim, carry_end, carry_unlock, draws, lock_by, names_after, obey, obey_by, released, turned_away, walker_now}
 use Rattle.serial_run.specs.Reached.{IsHeldBy}
 use Rattle.serial_run.proofs.Longer.{Takes, behind, longer, releases_longer, walks_longer}
 use Rattle.serial_run.proofs.Walkers.{get_or-only, only, only_behind, only_behind_none, only_none, only_set, walker_grows}
@@ -187,7 +187,7 @@ module _ (K : Modelling) (good : IsModeller K) (n t : ℕ) (lines : List ScriptL
     at_partition : (p : ℕ) → Stands w (with_only n s.held names p [])
     at_partition p = subst (Stands w) (sym (rest_is n s.held names p)) stands
 
-    lock_walked : (p : ℕ) → refusal_of_order n (walker_now s) (Lock p) ≡ None → (1 ≤ p) × (p ≤ n) → (partition_at w p).state.holder ≡ None → IsWalked K n t lines said (Lock p) (record { world = after_event K w (by t (event.Claim p)); held = with_held p s.held; names = s.names; said = Locked })
+    lock_walked : (p : ℕ) → refusal_of_order n (walker_now s) (Lock p) ≡ None → (1 ≤ p) × (p ≤ n) → (partition_at w p).state.holder ≡ None → IsWalked K n t lines said (Lock p) (carry_claim K t w s p)
     lock_walked p none (first, last) free =
         let in' : p ≤ length w.partitions = omega (arith, count) in
         let d = claim_done K good w t p session first in' free in
@@ -241,18 +241,11 @@ module _ (K : Modelling) (good : IsModeller K) (n t : ℕ) (lines : List ScriptL
         says_taken before order (said_of answer) after (refusal_same n s.held names s.names before.left [] same order ∙ none)
         (subst (λ c. ActSays K t before p c bind (said_of answer) after) (sym (act_same before (walker_now s) same a operands)) says)
 
-    -- what is left of an act, by whether a block was left
-    abbrev acted_by : ℕ → Act → Drawn → Option ℕ → Acted
-    acted_by p b drawn spent = elim spent [
-      | None ↦ record { world = after_event K drawn.world (by t (event.Act p b)); answer = answer_of K (partition_at drawn.world p).state b }
-      | Some next ↦ record { world = after_event K drawn.world (by t (event.GiveUp p b next)); answer = Err (refusal.TagsSpent next) }
-    ]
-
     abbrev carried_by : Option Name → Acted → Carried
     carried_by bind done = record { world = done.world; held = s.held; names = names_after done.answer bind s.names; said = said_of done.answer }
 
     -- once it was drawn for
-    ended_by : (p : ℕ) (a : Act) (operands : List Operand) (bind : Option Name) (drawn : Drawn) → refusal_of_order n (walker_now s) (On p a operands bind) ≡ None → DrawsDone K t p (act_with_tags (walker_now s) a operands) w drawn → DrawsWalked s.held names p (act_with_tags (walker_now s) a operands) drawn → (o : Option ℕ) → drawn.spent ≡ o → IsWalked K n t lines said (On p a operands bind) (carried_by bind (acted_by p (act_with_tags (walker_now s) a operands) drawn o))
+    ended_by : (p : ℕ) (a : Act) (operands : List Operand) (bind : Option Name) (drawn : Drawn) → refusal_of_order n (walker_now s) (On p a operands bind) ≡ None → DrawsDone K t p (act_with_tags (walker_now s) a operands) w drawn → DrawsWalked s.held names p (act_with_tags (walker_now s) a operands) drawn → (o : Option ℕ) → drawn.spent ≡ o → IsWalked K n t lines said (On p a operands bind) (carried_by bind (acts_by K t p (act_with_tags (walker_now s) a operands) drawn.world o))
     ended_by p a operands bind drawn none dd dw None is =
         let b = act_with_tags (walker_now s) a operands in
         let v = drawn.world in
@@ -300,13 +293,7 @@ module _ (K : Modelling) (good : IsModeller K) (n t : ℕ) (lines : List ScriptL
 
     -- ---- every order
 
-    abbrev lock_by : ℕ → Option ℕ → Option Carried
-    lock_by p holder = elim holder [
-      | None ↦ Some (record { world = after_event K w (by t (event.Claim p)); held = with_held p s.held; names = s.names; said = Locked })
-      | Some u ↦ None
-    ]
-
-    lock_by_walked : (p : ℕ) (c : Carried) → refusal_of_order n (walker_now s) (Lock p) ≡ None → (1 ≤ p) × (p ≤ n) → (o : Option ℕ) → (partition_at w p).state.holder ≡ o → lock_by p o ≡ Some c → IsWalked K n t lines said (Lock p) c
+    lock_by_walked : (p : ℕ) (c : Carried) → refusal_of_order n (walker_now s) (Lock p) ≡ None → (1 ≤ p) × (p ≤ n) → (o : Option ℕ) → (partition_at w p).state.holder ≡ o → lock_by K t w s p o ≡ Some c → IsWalked K n t lines said (Lock p) c
     lock_by_walked p c none in' None is h = subst (IsWalked K n t lines said (Lock p)) (same_Some _ c h) (lock_walked p none in' is)
     lock_by_walked p c none in' (Some u) is h = absurd (cc)
 
@@ -321,7 +308,7 @@ module _ (K : Modelling) (good : IsModeller K) (n t : ℕ) (lines : List ScriptL
         let own = held_each (IsHeldBy w t) s.held p all (act_allowed n s p a operands bind none) in
         subst (IsWalked K n t lines said (On p a operands bind)) (same_Some _ c h) (act_walked p a operands bind none own)
 
-    obey_walked : (o : Order) (c : Carried) → AllByRecursion (IsHeldBy w t) s.held → Ascends s.held → (q : Option Refusal) → refusal_of_order n (walker_now s) o ≡ q → elim q as (λ (_ : Option Refusal). Option Carried) [ None ↦ carry K t w s o | Some r ↦ Some (turned_away w s r) ] ≡ Some c → IsWalked K n t lines said o c
+    obey_walked : (o : Order) (c : Carried) → AllByRecursion (IsHeldBy w t) s.held → Ascends s.held → (q : Option Refusal) → refusal_of_order n (walker_now s) o ≡ q → obey_by K t w s o q ≡ Some c → IsWalked K n t lines said o c
     obey_walked o c all ascends None is h = carry_walked o c all ascends is h
     obey_walked o c all ascends (Some r) is h = subst (IsWalked K n t lines said o) (same_Some _ c h) (turned_away_walked o r is)
 

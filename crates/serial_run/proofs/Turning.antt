@@ -1,10 +1,10 @@
 -- What a turn leaves: what holds between any two turns is kept.
-use Rattle.std.proofs.Common.{◌≡◌, ℕ, zero, suc, ◌-◌, ◌≤◌, ⊎_elim, Bool, true, false, not, List, [], ◌∷◌, length, Option, Some, None, refl, sym, ap, subst, ◌∙◌}
+use Rattle.std.proofs.Common.{◌≡◌, ℕ, zero, suc, ◌-◌, ◌<◌, ◌≤◌, ⊎_elim, Bool, true, false, not, List, [], ◌∷◌, length, Option, Some, None, refl, sym, ap, subst, ◌∙◌}
 use Rattle.std.specs.Prelude.{◌≢◌, ◌==◌, nat_lt}
 use Rattle.std.specs.Option.{option_map_or}
 use Rattle.std.specs.List.{AllByRecursion, range_with_len}
-use Rattle.std.proofs.lemmas.Bool.{and_parts, cases_eq, eq-eqb, leb-true, or_left}
-use Rattle.std.proofs.lemmas.Option.{same_Some}
+use Rattle.std.proofs.lemmas.Bool.{and_parts, cases_eq, eq-eqb, leb-true, ltb-false, or_left, not-false}
+use Rattle.std.proofs.lemmas.Option.{same_Some, none-some}
 use Rattle.std.proofs.lemmas.List.{length-replicate, length-set}
 use Rattle.std.proofs.lemmas.List.FromFn.{length-map-range_with_len}
 use Rattle.pk_base.specs.declared.act.Act.{Act}
@@ -15,7 +15,7 @@ use Rattle.pk_base.specs.declared.refusal.Refusal.TheVariants as refusal
 use Rattle.pk_model.specs.State.{PartitionState}
 use Rattle.pk_model.specs.Tags.{Ascends}
 use Rattle.pk_model.specs.Modelling.{Modelling, IsModeller}
-use Rattle.pk_model.proofs.TagLists.{ByRecursion-weaker}
+use Rattle.list_facts.proofs.Each.{ByRecursion-weaker}
 use Rattle.world_core.specs.declared.event.Event.TheVariants as event
 use Rattle.world_core.specs.World.{WorldState, IsAsLarge, opened, partition_at}
 use Rattle.world_core.specs.Session.{IsSession}
@@ -27,60 +27,56 @@ use Rattle.script_text.specs.declared.script.Script.{Script}
 use Rattle.script_text.specs.declared.script.ScriptLine.{ScriptLine}
 use Rattle.script_text.specs.declared.script.Order.{Order}
 use Rattle.script_text.specs.declared.script.Order.TheVariants.{Lock, Unlock, End, On}
-use Rattle.script_text.specs.declared.report.LineSaid.TheVariants.{Locked}
-use Rattle.serial_run.specs.Serial.{Carried, RunState, ThreadState, acts, by, carry, carry_act, carry_end, carry_unlock, fresh_thread, goes_on, lines_at, next_line, obey, rounds, run_begins, thread_at, turn, turn_of, turned_away, turns, walker_now}
+use Rattle.serial_run.specs.Serial.{Carried, RunState, ThreadState, acts, by, carry, carry_act, carry_claim, carry_end, carry_unlock, fresh_thread, goes_on, line_by, lines_at, lock_by, next_line, obey, obey_by, rounds, run_begins, thread_at, told, turn, turn_by, turned_away, turns, walker_now}
 use Rattle.serial_run.specs.WellFormed.{IsWellFormed}
 use Rattle.serial_run.specs.Reached.{IsHeldBy, IsReached}
-use Rattle.serial_run.proofs.Events.{acts_done, claim_done, claimed, done_alters, freed, held_after, held_before, held_still, none_some, one_holder, release_done, release_held, releases_done}
-use Rattle.serial_run.proofs.HeldLists.{Ascends-with, Ascends-without, all_with, all_without, held_each, is_held-with, is_held-with_itself, is_held-without}
-use Rattle.serial_run.proofs.Threads.{goes_on-threads, gone_on, thread_at-replicate}
+use Rattle.serial_run.proofs.Events.{IsAsLarge-refl, acts_done, claim_done, claimed, done_alters, freed, held_after, held_before, held_still, one_holder, release_done, release_held, releases_done}
+use Rattle.serial_run.proofs.HeldLists.{Ascends-with, Ascends-without, above_greatest, all_with, all_without, held_each, is_held-with, is_held-with_itself, is_held-without}
+use Rattle.serial_run.proofs.Threads.{goes_on-threads, thread_at-replicate}
 
 -- ---- what is not refused
 
 no_refusal : (b : Bool) (r : Refusal) (more : Option Refusal) → (refusal_if b r or_else more) ≡ None → (b ≡ false) × (more ≡ None)
-no_refusal true r more h = absurd (none_some r (sym h))
+no_refusal true r more h = absurd (none-some r (sym h))
 no_refusal false r more h = (refl, h)
 
 not_refused : (b : Bool) (r : Refusal) → refusal_if b r ≡ None → b ≡ false
-not_refused true r h = absurd (none_some r (sym h))
+not_refused true r h = absurd (none-some r (sym h))
 not_refused false r h = refl
 
 second_none : (first more : Option Refusal) → (first or_else more) ≡ None → more ≡ None
 second_none None more h = h
-second_none (Some r) more h = absurd (none_some r (sym h))
-
-not_not : (b : Bool) → not b ≡ false → b ≡ true
-not_not true h = refl
-not_not false h = sym h
+second_none (Some r) more h = absurd (none-some r (sym h))
 
 -- the number is that of one of n partitions
 pub partition_within : (n p : ℕ) → not (is_partition n p) ≡ false → (1 ≤ p) × (p ≤ n)
-partition_within n p h = let parts = and_parts _ _ (not_not (is_partition n p) h) in (leb-true 1 p parts.0, leb-true p n parts.1)
+partition_within n p h = let parts = and_parts _ _ (not-false (is_partition n p) h) in (leb-true 1 p parts.0, leb-true p n parts.1)
 
--- A lock that is not refused is of one of n partitions, which the thread does not hold, and not below one that it does.
+-- A lock that is not refused is of one of n partitions, above all that the thread holds.
 pub record LockAllowed (n : ℕ) (held : List ℕ) (p : ℕ) : Type 0 where
   pub within : (1 ≤ p) × (p ≤ n)
-  pub new : is_held held p ≡ false
-  pub above : nat_lt p (greatest held) ≡ false
+  pub above : greatest held < p
 
 pub lock_allowed : (n : ℕ) (s : ThreadState) (p : ℕ) → refusal_of_order n (walker_now s) (Lock p) ≡ None → LockAllowed n s.held p
 lock_allowed n s p h =
     let a = no_refusal (not (is_partition n p)) (refusal.NoPartition p) (refusal_if (is_held s.held p) (refusal.AlreadyLocked p) or_else refusal_if (nat_lt p (greatest s.held)) (refusal.LockOrder (greatest s.held))) h in
     let b = no_refusal (is_held s.held p) (refusal.AlreadyLocked p) (refusal_if (nat_lt p (greatest s.held)) (refusal.LockOrder (greatest s.held))) a.1 in
-    record { within = partition_within n p a.0; new = b.0; above = not_refused (nat_lt p (greatest s.held)) (refusal.LockOrder (greatest s.held)) b.1 }
+    let within = partition_within n p a.0 in
+    let most : greatest s.held ≤ p = ltb-false p (greatest s.held) (not_refused (nat_lt p (greatest s.held)) (refusal.LockOrder (greatest s.held)) b.1) in
+    record { within = within; above = above_greatest s.held p within.0 b.0 most }
 
 -- an unlock that is not refused is of a partition that the thread holds
 pub unlock_allowed : (n : ℕ) (s : ThreadState) (p : ℕ) → refusal_of_order n (walker_now s) (Unlock p) ≡ None → is_held s.held p ≡ true
 unlock_allowed n s p h =
     let a = no_refusal (not (is_partition n p)) (refusal.NoPartition p) (refusal_if (not (is_held s.held p)) (refusal.NotLocked p)) h in
-    not_not (is_held s.held p) (not_refused (not (is_held s.held p)) (refusal.NotLocked p) a.1)
+    not-false (is_held s.held p) (not_refused (not (is_held s.held p)) (refusal.NotLocked p) a.1)
 
 -- and so is an act
 pub act_allowed : (n : ℕ) (s : ThreadState) (p : ℕ) (a : Act) (operands : List Operand) (bind : Option Name) → refusal_of_order n (walker_now s) (On p a operands bind) ≡ None → is_held s.held p ≡ true
 act_allowed n s p a operands bind h =
     let more = refusal_if (not (is_partition n p)) (refusal.NoPartition p) or_else refusal_if (not (is_held s.held p)) (refusal.NotLocked p) in
     let b = no_refusal (not (is_partition n p)) (refusal.NoPartition p) (refusal_if (not (is_held s.held p)) (refusal.NotLocked p)) (second_none (refusal_of_operands (tags_of_operands s.names 1 operands)) more h) in
-    not_not (is_held s.held p) (not_refused (not (is_held s.held p)) (refusal.NotLocked p) b.1)
+    not-false (is_held s.held p) (not_refused (not (is_held s.held p)) (refusal.NotLocked p) b.1)
 
 -- ---- an order
 
@@ -99,7 +95,7 @@ pub record Obeyed (K : Modelling) (t : ℕ) (w : WorldState) (s : ThreadState) (
 away_obeyed : (K : Modelling) (w : WorldState) (t : ℕ) (s : ThreadState) (r : Refusal) → IsSession K w → AllByRecursion (IsHeldBy w t) s.held → Obeyed K t w s (turned_away w s r)
 away_obeyed K w t s r session all = record {
   session = session;
-  large = record { partitions = refl; threads = refl; last = refl };
+  large = IsAsLarge-refl w;
   held = all;
   kept = λ u p differ h. h;
   before = λ u p differ h. h;
@@ -108,14 +104,14 @@ away_obeyed K w t s r session all = record {
 }
 
 -- the lock of a free partition
-lock_obeyed : (K : Modelling) → IsModeller K → (w : WorldState) (t : ℕ) (s : ThreadState) (p : ℕ) → IsSession K w → AllByRecursion (IsHeldBy w t) s.held → (1 ≤ p) × (p ≤ length w.partitions) → (partition_at w p).state.holder ≡ None → Obeyed K t w s (record { world = after_event K w (by t (event.Claim p)); held = with_held p s.held; names = s.names; said = Locked })
+lock_obeyed : (K : Modelling) → IsModeller K → (w : WorldState) (t : ℕ) (s : ThreadState) (p : ℕ) → IsSession K w → AllByRecursion (IsHeldBy w t) s.held → (1 ≤ p) × (p ≤ length w.partitions) → (partition_at w p).state.holder ≡ None → Obeyed K t w s (carry_claim K t w s p)
 lock_obeyed K good w t s p session all within free =
     let new = after_event K w (by t (event.Claim p)) in
     let was = (partition_at w p).state in
     let d = claim_done K good w t p session within.0 within.1 free in
     let alters = done_alters K w t (event.Claim p) (Claimed t) (claimed was t) d in
     let here : IsHeldBy new t p = held_after K p t w new alters within.0 within.1 (ap (λ (x : PartitionState). x.holder) d.state) in
-    let other : (u q : ℕ) → IsHeldBy w u q → q ≢ p = λ u q h e. none_some u (sym free ∙ (subst (IsHeldBy w u) e h).holder) in
+    let other : (u q : ℕ) → IsHeldBy w u q → q ≢ p = λ u q h e. none-some u (sym free ∙ (subst (IsHeldBy w u) e h).holder) in
     record {
       session = d.session;
       large = d.large;
@@ -187,13 +183,9 @@ act_obeyed K good w t s p a bind session all held =
 -- an order that is not turned away, and does not wait
 carried : (K : Modelling) → IsModeller K → (w : WorldState) (t : ℕ) (s : ThreadState) (order : Order) (c : Carried) → IsSession K w → AllByRecursion (IsHeldBy w t) s.held → refusal_of_order (length w.partitions) (walker_now s) order ≡ None → carry K t w s order ≡ Some c → Obeyed K t w s c
 carried K good w t s (Lock p) c session all fits h =
-    let gives : Carried = record { world = after_event K w (by t (event.Claim p)); held = with_held p s.held; names = s.names; said = Locked } in
-    elim (partition_at w p).state.holder as (λ (o : Option ℕ). (partition_at w p).state.holder ≡ o → elim o as (λ (_ : Option ℕ). Option Carried) [
-      | None ↦ Some (record { world = after_event K w (by t (event.Claim p)); held = with_held p s.held; names = s.names; said = Locked })
-      | Some holder ↦ None
-    ] ≡ Some c → Obeyed K t w s c) [
-      | None ↦ λ free k. subst (Obeyed K t w s) (same_Some gives c k) (lock_obeyed K good w t s p session all (lock_allowed (length w.partitions) s p fits).within free)
-      | Some holder ↦ λ held k. absurd (none_some c k)
+    elim (partition_at w p).state.holder as (λ (o : Option ℕ). (partition_at w p).state.holder ≡ o → lock_by K t w s p o ≡ Some c → Obeyed K t w s c) [
+      | None ↦ λ free k. subst (Obeyed K t w s) (same_Some (carry_claim K t w s p) c k) (lock_obeyed K good w t s p session all (lock_allowed (length w.partitions) s p fits).within free)
+      | Some holder ↦ λ held k. absurd (none-some c k)
     ] refl h
 carried K good w t s (Unlock p) c session all fits h =
     subst (Obeyed K t w s) (same_Some (carry_unlock K t w s p) c h) (unlock_obeyed K good w t s p session all (unlock_allowed (length w.partitions) s p fits))
@@ -205,10 +197,7 @@ carried K good w t s (On p a operands bind) c session all fits h =
 -- an order that does not wait
 pub order_obeyed : (K : Modelling) → IsModeller K → (w : WorldState) (t : ℕ) (s : ThreadState) (order : Order) (c : Carried) → IsSession K w → AllByRecursion (IsHeldBy w t) s.held → obey K t w s order ≡ Some c → Obeyed K t w s c
 order_obeyed K good w t s order c session all h =
-    elim (refusal_of_order (length w.partitions) (walker_now s) order) as (λ (o : Option Refusal). refusal_of_order (length w.partitions) (walker_now s) order ≡ o → elim o as (λ (_ : Option Refusal). Option Carried) [
-      | None ↦ carry K t w s order
-      | Some r ↦ Some (turned_away w s r)
-    ] ≡ Some c → Obeyed K t w s c) [
+    elim (refusal_of_order (length w.partitions) (walker_now s) order) as (λ (o : Option Refusal). refusal_of_order (length w.partitions) (walker_now s) order ≡ o → obey_by K t w s order o ≡ Some c → Obeyed K t w s c) [
       | None ↦ λ fits k. carried K good w t s order c session all fits k
       | Some r ↦ λ is k. subst (Obeyed K t w s) (same_Some (turned_away w s r) c k) (away_obeyed K w t s r session all)
     ] refl h
@@ -222,10 +211,10 @@ obeyed_reached K good script r t s order c reached is h = order_obeyed K good r.
 -- what holds of a state, and of each that a line of thread t leads to, holds after its turn
 pub turn_cases : (K : Modelling) (lines : List (List ScriptLine)) (r : RunState) (t : ℕ) (P : RunState → Type 0) → P r → ((s : ThreadState) (line : ScriptLine) (c : Carried) → thread_at r.threads t ≡ Some s → next_line (lines_at lines t) s ≡ Some line → obey K t r.world s line.order ≡ Some c → P (goes_on r t s line.number c)) → P (turn K lines r t)
 turn_cases K lines r t P same more =
-    elim (thread_at r.threads t) as (λ (o : Option ThreadState). thread_at r.threads t ≡ o → P (elim o as (λ (_ : Option ThreadState). RunState) [ None ↦ r | Some s ↦ turn_of K (lines_at lines t) r t s ])) [
+    elim (thread_at r.threads t) as (λ (o : Option ThreadState). thread_at r.threads t ≡ o → P (turn_by K lines r t o)) [
       | None ↦ λ is. same
       | Some s ↦ λ is.
-          elim (next_line (lines_at lines t) s) as (λ (o : Option ScriptLine). next_line (lines_at lines t) s ≡ o → P (elim o as (λ (_ : Option ScriptLine). RunState) [ None ↦ r | Some line ↦ option_map_or (goes_on r t s line.number) (obey K t r.world s line.order) r ])) [
+          elim (next_line (lines_at lines t) s) as (λ (o : Option ScriptLine). next_line (lines_at lines t) s ≡ o → P (line_by K r t s o)) [
             | None ↦ λ next. same
             | Some line ↦ λ next.
                 elim (obey K t r.world s line.order) as (λ (o : Option Carried). obey K t r.world s line.order ≡ o → P (option_map_or (goes_on r t s line.number) o r)) [
@@ -267,9 +256,9 @@ goes_on-reached K script r t s k c reached is x = record {
   partitions = x.large.partitions ∙ reached.partitions;
   last = x.large.last ∙ reached.last;
   threads = x.large.threads ∙ reached.threads;
-  count = length-set r.threads (t - 1) (gone_on s k c) ∙ reached.count;
+  count = length-set r.threads (t - 1) (told s k c) ∙ reached.count;
   held = λ u y there.
-      ⊎_elim (λ (same : (u ≡ t) × (y ≡ gone_on s k c)).
+      ⊎_elim (λ (same : (u ≡ t) × (y ≡ told s k c)).
       subst (λ v. AllByRecursion (IsHeldBy c.world v) y.held) (sym same.0) (subst (λ (z : ThreadState). AllByRecursion (IsHeldBy c.world t) z.held) (sym same.1) x.held))
       (λ (other : (u ≢ t) × (thread_at r.threads u ≡ Some y)).
       ByRecursion-weaker (IsHeldBy r.world u) (IsHeldBy c.world u) (λ p h. x.kept u p other.0 h) y.held (reached.held u y other.1))

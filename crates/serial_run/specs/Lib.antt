@@ -3,6 +3,5 @@ pub mod Serial
 pub mod WellFormed
 pub mod Reached
 pub mod Ends
-pub mod Held
 pub mod Names
 pub mod Orders

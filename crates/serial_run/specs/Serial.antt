@@ -87,19 +87,21 @@ pub record Acted : Type 0 where
   pub world : WorldState
   pub answer : Result Reply Refusal
 
+-- an act on partition p is done; or it is given up, where a draw found this number
+abbrev pub acts_by : Modelling → ℕ → ℕ → Act → WorldState → Option ℕ → Acted
+acts_by K t p a w None = record {
+  world = after_event K w (by t (event.Act p a));
+  answer = answer_of K (partition_at w p).state a;
+}
+acts_by K t p a w (Some next) = record {
+  world = after_event K w (by t (event.GiveUp p a next));
+  answer = Err (TagsSpent next);
+}
+
 -- Thread t has drawn for an act on partition p. The act is done, or where no block was left it is
 -- given up.
 abbrev pub act_after : Modelling → ℕ → ℕ → Act → Drawn → Acted
-act_after K t p a drawn = elim drawn.spent [
-  | None ↦ record {
-    world = after_event K drawn.world (by t (event.Act p a));
-    answer = answer_of K (partition_at drawn.world p).state a;
-  }
-  | Some next ↦ record {
-    world = after_event K drawn.world (by t (event.GiveUp p a next));
-    answer = Err (TagsSpent next);
-  }
-]
+act_after K t p a drawn = acts_by K t p a drawn.world drawn.spent
 
 -- thread t does an act on partition p, for which it draws as many blocks as it is short of
 abbrev pub acts : Modelling → ℕ → ℕ → Act → WorldState → Acted
@@ -114,17 +116,23 @@ pub record Carried : Type 0 where
   pub names : List (Name × List Tag)
   pub said : LineSaid
 
+-- the lock of a partition that is free
+abbrev pub carry_claim : Modelling → ℕ → WorldState → ThreadState → ℕ → Carried
+carry_claim K t w s p = record {
+  world = after_event K w (by t (event.Claim p));
+  held = with_held p s.held;
+  names = s.names;
+  said = Locked;
+}
+
+-- the lock of a partition with this holder, which waits where there is one
+abbrev pub lock_by : Modelling → ℕ → WorldState → ThreadState → ℕ → Option ℕ → Option Carried
+lock_by K t w s p None = Some (carry_claim K t w s p)
+lock_by K t w s p (Some holder) = None
+
 -- the lock of a partition, which waits where a thread holds it
 abbrev pub carry_lock : Modelling → ℕ → WorldState → ThreadState → ℕ → Option Carried
-carry_lock K t w s p = elim (partition_at w p).state.holder [
-  | None ↦ Some (record {
-    world = after_event K w (by t (event.Claim p));
-    held = with_held p s.held;
-    names = s.names;
-    said = Locked;
-  })
-  | Some holder ↦ None
-]
+carry_lock K t w s p = lock_by K t w s p (partition_at w p).state.holder
 
 abbrev pub carry_unlock : Modelling → ℕ → WorldState → ThreadState → ℕ → Carried
 carry_unlock K t w s p = record {
@@ -165,13 +173,16 @@ carry K t w s (On p a operands bind) =
 abbrev pub turned_away : WorldState → ThreadState → Refusal → Carried
 turned_away w s r = record { world = w; held = s.held; names = s.names; said = Refused r }
 
+-- an order that is turned away with this refusal, if it is
+abbrev pub obey_by : Modelling → ℕ → WorldState → ThreadState → Order → Option Refusal
+    → Option Carried
+obey_by K t w s order None = carry K t w s order
+obey_by K t w s order (Some r) = Some (turned_away w s r)
+
 -- an order of thread t
 abbrev pub obey : Modelling → ℕ → WorldState → ThreadState → Order → Option Carried
 obey K t w s order =
-    elim (refusal_of_order (length w.partitions) (walker_now s) order) [
-      | None ↦ carry K t w s order
-      | Some r ↦ Some (turned_away w s r)
-    ]
+    obey_by K t w s order (refusal_of_order (length w.partitions) (walker_now s) order)
 
 -- ---- turns
 
@@ -200,21 +211,26 @@ abbrev pub goes_on : RunState → ℕ → ThreadState → ℕ → Carried → Ru
 goes_on r t s k c =
     record { world = c.world; threads = slice_set r.threads (t - 1) (told s k c) }
 
+-- thread t carries this line out, if there is one; a lock that waits changes nothing
+abbrev pub line_by : Modelling → RunState → ℕ → ThreadState → Option ScriptLine → RunState
+line_by K r t s None = r
+line_by K r t s (Some line) =
+    option_map_or (goes_on r t s line.number) (obey K t r.world s line.order) r
+
 -- A turn of thread t carries its next line out. A lock that waits stays the next line, and a thread
 -- that has ended has none.
 abbrev pub turn_of : Modelling → List ScriptLine → RunState → ℕ → ThreadState → RunState
-turn_of K lines r t s = elim (next_line lines s) [
-  | None ↦ r
-  | Some line ↦
-      option_map_or (goes_on r t s line.number) (obey K t r.world s line.order) r
-]
+turn_of K lines r t s = line_by K r t s (next_line lines s)
+
+-- a turn of thread t, which is this one, if there is one
+abbrev pub turn_by : Modelling → List (List ScriptLine) → RunState → ℕ → Option ThreadState
+    → RunState
+turn_by K lines r t None = r
+turn_by K lines r t (Some s) = turn_of K (lines_at lines t) r t s
 
 -- a turn of thread t, if there is one; the threads have these lines
 abbrev pub turn : Modelling → List (List ScriptLine) → RunState → ℕ → RunState
-turn K lines r t = elim (thread_at r.threads t) [
-  | None ↦ r
-  | Some s ↦ turn_of K (lines_at lines t) r t s
-]
+turn K lines r t = turn_by K lines r t (thread_at r.threads t)
 
 -- turns of these threads, one after another
 abbrev pub turns : Modelling → List (List ScriptLine) → RunState → List ℕ → RunState

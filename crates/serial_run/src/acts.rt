@@ -1,13 +1,13 @@
 //! Events of a thread, and acts with their draws.
 ghost use Rattle.std.specs.Prelude.{◌≡◌, ◌≢◌, ℕ, ◌≤◌, ◌<◌, IfOk, IsSome, OnOk, None, Some, length, true, false};
 ghost use Rattle.std.specs.List.{AllByRecursion};
+ghost use Rattle.pk_model.specs.Tags.{Ascends};
 ghost use Rattle.pk_model.specs.Step.{short};
 ghost use Rattle.world_core.specs.World.{IsAsLarge, partition_at};
 ghost use Rattle.world_core.specs.Session.{IsSession};
 ghost use Rattle.world_core.specs.Runs.{after_event};
 ghost use Rattle.world_core.specs.declared.event.Event.TheVariants as event;
 ghost use Rattle.serial_run.specs.Serial.{act_after, acts, by, draws, released};
-ghost use Rattle.serial_run.specs.Held.{Ascends};
 ghost use Rattle.serial_run.specs.Orders.{IsDone};
 ghost use Rattle.serial_run.specs.Reached.{IsHeldBy, IsThreadOf};
 
@@ -40,43 +40,27 @@ pub(crate) fn claim<K: Modeller, L: Ledger>(
     }
 }
 
-/// Thread t lets partition p go.
-pub(crate) fn release<K: Modeller, L: Ledger>(
-    world: &mut World<K>,
-    t: u32,
-    p: u32,
-    steps: &mut Steps<L>,
-) -> Result<(), NoMemory>
+/// Thread t lets partition p go. It takes no memory.
+pub(crate) fn release<K: Modeller>(world: &mut World<K>, t: u32, p: u32)
     requires thread { IsThreadOf world.old t }
     requires held { IsHeldBy world.old t p }
-    ensures released { OnOk result (world.new
-        ≡ after_event K.modelling world.old (by t (event.Release p))) }
+    ensures released { world.new ≡ after_event K.modelling world.old (by t (event.Release p)) }
     ensures others { (q : ℕ) → 1 ≤ q → q ≢ p → partition_at world.new q ≡ partition_at world.old q }
     ensures large { IsAsLarge world.old world.new }
 {
-    match world.step(t, Event::Release(p), steps) {
-        Ok(_) => Ok(()),
-        Err(WorldNo::NoMemory) => Err(NoMemory),
-        Err(WorldNo::Refused(_) | WorldNo::Blocked(_) | WorldNo::Spent(_)) => unreachable!(),
-    }
+    world.release(t, p);
 }
 
-/// Thread t lets these partitions go, one after another.
-pub(crate) fn release_all<K: Modeller, L: Ledger>(
-    world: &mut World<K>,
-    t: u32,
-    parts: &[u32],
-    steps: &mut Steps<L>,
-) -> Result<(), NoMemory>
+/// Thread t lets these partitions go, one after another. It takes no memory.
+pub(crate) fn release_all<K: Modeller>(world: &mut World<K>, t: u32, parts: &[u32])
     requires thread { IsThreadOf world.old t }
     requires held { AllByRecursion (IsHeldBy world.old t) parts.now }
-    requires ascend { Ascends 0 parts.now }
-    ensures { OnOk result (world.new ≡ released K.modelling t parts.now world.old) }
+    requires ascend { Ascends parts.now }
+    ensures { world.new ≡ released K.modelling t parts.now world.old }
 {
     for p in parts {
-        release(world, t, *p, steps)?;
+        release(world, t, *p);
     }
-    Ok(())
 }
 
 /// Thread t draws so many blocks for partition p, one by one, until none is left; then the number

@@ -1,6 +1,6 @@
 //! The partitions that a thread holds.
-ghost use Rattle.std.specs.Prelude.{◌≡◌, ◌<◌, ◌≤◌, []};
-ghost use Rattle.serial_run.specs.Held.{Ascends};
+ghost use Rattle.std.specs.Prelude.{◌≡◌, ◌<◌, ◌≤◌, [], ◌∷◌};
+ghost use Rattle.pk_model.specs.Tags.{Ascends};
 ghost use Rattle.script_text.specs.Walk.{greatest, is_held, with_held, without_held};
 
 use arrayvec::ArrayVec;
@@ -16,14 +16,14 @@ pub(crate) struct Held {
 }
 
 impl Model for Held {
-    ghost use Rattle.std.specs.Prelude.{ℕ, List};
-    ghost use Rattle.serial_run.specs.Held.{Ascends};
+    ghost use Rattle.std.specs.Prelude.{ℕ, List, ◌∷◌};
+    ghost use Rattle.pk_model.specs.Tags.{Ascends};
 
     ghost Value = { List ℕ };
 
     ghost view = { λ h. h.parts.items };
 
-    ghost invariant = { λ h. Ascends 0 h.parts.items };
+    ghost invariant = { λ h. Ascends (0 ∷ h.parts.items) };
 }
 
 impl Held {
@@ -80,7 +80,7 @@ impl Held {
     /// The numbers.
     pub(crate) fn as_slice(&self) -> &[u32]
         ensures value { result.now ≡ self.now }
-        ensures ascend { Ascends 0 result.now }
+        ensures ascend { Ascends (0 ∷ result.now) }
     {
         self.parts.as_slice()
     }

@@ -69,8 +69,8 @@ impl Progress {
     {
         match order {
             Order::Lock(p) => self.lock(world, turn, *p, steps),
-            Order::Unlock(p) => Ok(Some(self.unlock(world, turn, *p, steps)?)),
-            Order::End => Ok(Some(self.end(world, turn, steps)?)),
+            Order::Unlock(p) => Ok(Some(self.unlock(world, turn, *p))),
+            Order::End => Ok(Some(self.end(world, turn)?)),
             Order::On {
                 partition,
                 act,
@@ -113,36 +113,25 @@ impl Progress {
         Ok(Some(LineSaid::Locked))
     }
 
-    /// `unlock p`.
-    fn unlock<K: Modeller, L: Ledger>(
-        &mut self,
-        world: &mut World<K>,
-        turn: Turn,
-        p: u32,
-        steps: &mut Steps<L>,
-    ) -> Result<LineSaid, NoMemory>
+    /// `unlock p`. It takes no memory.
+    fn unlock<K: Modeller>(&mut self, world: &mut World<K>, turn: Turn, p: u32) -> LineSaid
         requires turn { IsTurnIn world.old turn }
         requires held { AllByRecursion (IsHeldBy world.old turn.thread) self.old.held }
-        ensures obeys { IfOk result (λ said. obey K.modelling turn.thread world.old
+        ensures obeys { obey K.modelling turn.thread world.old
             (thread_state self.old) (order.Unlock p)
-            ≡ Some (carried world.new (thread_state self.new) said)) }
-        ensures said { OnOk result (self.new.said ≡ self.old.said) }
+            ≡ Some (carried world.new (thread_state self.new) result) }
+        ensures said { self.new.said ≡ self.old.said }
     {
         if let Some(refusal) = self.refusal_of_use(turn, p) {
-            return Ok(LineSaid::Refused(refusal));
+            return LineSaid::Refused(refusal);
         }
-        release(world, turn.thread, p, steps)?;
+        release(world, turn.thread, p);
         self.held.remove(p);
-        Ok(LineSaid::Unlocked)
+        LineSaid::Unlocked
     }
 
     /// `end`.
-    fn end<K: Modeller, L: Ledger>(
-        &mut self,
-        world: &mut World<K>,
-        turn: Turn,
-        steps: &mut Steps<L>,
-    ) -> Result<LineSaid, NoMemory>
+    fn end<K: Modeller>(&mut self, world: &mut World<K>, turn: Turn) -> Result<LineSaid, NoMemory>
         requires turn { IsTurnIn world.old turn }
         requires held { AllByRecursion (IsHeldBy world.old turn.thread) self.old.held }
         ensures obeys { IfOk result (λ said. obey K.modelling turn.thread world.old
@@ -151,7 +140,7 @@ impl Progress {
         ensures said { OnOk result (self.new.said ≡ self.old.said) }
     {
         let parts = Vec::from_slice(turn.alloc, self.held.as_slice())?;
-        release_all(world, turn.thread, &parts, steps)?;
+        release_all(world, turn.thread, &parts);
         self.held.clear();
         Ok(LineSaid::Ended(Items::of(parts)))
     }

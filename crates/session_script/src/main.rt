@@ -7,15 +7,13 @@ ghost use Rattle.script_runner.specs.Statuses.{number_of_status};
 ghost use Rattle.script_runner.specs.declared.run.Outcome.{Outcome};
 ghost use Rattle.session_script.specs.Ending.{EndsWith, IsRun};
 
-use crate::line::line_of;
 use crate::words::words_of;
 use pk_outside::{Sink, Source, StdinSource, StdoutSink};
-use script_runner::{Status, run_serial};
+use script_runner::{Status, line_of, run_serial};
 use std::env::{self, Env};
 use std::io;
 use std::process::ExitCode;
 
-mod line;
 mod words;
 
 fn main(rt: HostRuntime) -> ExitCode {
@@ -77,6 +75,3 @@ fn exit_code(status: Status) -> ExitCode
 {
     ExitCode::from(status.number())
 }
-
-#[cfg(test)]
-mod tests;

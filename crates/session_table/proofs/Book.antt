@@ -5,7 +5,7 @@ use mathlib.Core.Option as maybe
 use native.Mathlib.Decide.{ℕ_discrete}
 use lib.ListN.{get_elem?}
 use Rattle.std.specs.Prelude.{◌==◌, Option, Some, None, slice_index}
-use Rattle.std.proofs.lemmas.Option.{cond_some}
+use Rattle.std.proofs.lemmas.Option.{cond_some, none-some}
 use Rattle.atomic_table.specs.Table.{State}
 use Rattle.pk_base.specs.declared.act.Entry.{Entry}
 use Rattle.session_table.specs.declared.view.Bounds.{Bounds}
@@ -14,7 +14,7 @@ use Rattle.session_table.specs.declared.view.View.{View}
 use Rattle.session_table.specs.Named.{Named}
 use Rattle.session_table.specs.Rule.{Stand, IsHome, IsOut, Lies, note_for, DrawnOnce}
 use Rattle.session_table.proofs.Journals.{starts_itself}
-use Rattle.session_table.proofs.Keeps.{Moves, none_not_some}
+use Rattle.session_table.proofs.Keeps.{Moves}
 
 -- the book in which p stands so
 abbrev pub put : (ℕ → Stand) → ℕ → Stand → ℕ → Stand
@@ -40,7 +40,7 @@ moves_put t book p st own = put_each (λ q x. Moves t (book q) x) book p st own 
 
 -- a seat has a note where it is the holder, and the note is of how the partition stands
 pub noted_stands : (o : Option ℕ) (note' note : Note) (s : ℕ) → note_for o note' s ≡ Some note → (o ≡ Some s) × (note' ≡ note)
-noted_stands None note' note s e = absurd (none_not_some note e)
+noted_stands None note' note s e = absurd (none-some note e)
 noted_stands (Some t) note' note s e = let h = cond_some (t == s) note' note e in (ap Some (eqb-true t s h.0), h.1)
 
 pub note_itself : (note : Note) (s : ℕ) → note_for (Some s) note s ≡ Some note

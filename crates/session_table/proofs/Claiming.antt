@@ -8,6 +8,7 @@ use Rattle.std.specs.Prelude.{Option, Some, None, slice_index}
 use Rattle.atomic_table.specs.Table.{State, Act, keeps, takes, Valid, stepped, step, carried_after, Allows}
 use Rattle.atomic_table.proofs.Lists.{set_here, set_else, exchanged}
 use Rattle.pk_base.specs.declared.act.Entry.{Entry}
+use Rattle.std.proofs.lemmas.Option.{none-some, same_Some}
 use Rattle.session_table.specs.declared.view.Bounds.{Bounds}
 use Rattle.session_table.specs.declared.view.Line.{Line}
 use Rattle.session_table.specs.declared.view.Note.{Note}
@@ -21,7 +22,7 @@ use Rattle.session_table.specs.Tells.{note_from, claims}
 use Rattle.session_table.specs.Seats.{line_here, line_there}
 use Rattle.session_table.proofs.Journals.{starts_itself}
 use Rattle.session_table.proofs.Seating.{total-set}
-use Rattle.session_table.proofs.Keeps.{Moves, IsSame, steps, none_not_some, some_same}
+use Rattle.session_table.proofs.Keeps.{Moves, IsSame, steps}
 use Rattle.session_table.proofs.Book.{put, put_each, moves_none, moves_put, note_itself, note_else, lies_same, home_of, out_of, drawn_same}
 
 -- what a seat keeps where it has one line more
@@ -90,7 +91,7 @@ module _ {X : Type 0} (named : X → Named) (bounds : Bounds) where
         slot = set_here s.homes p none (let l = r.slots in omega arith);
       }
       record {
-        holds = λ u e. inl (sym (some_same v.number u e));
+        holds = λ u e. inl (sym (same_Some v.number u e));
         notes = λ u ne. note_else (record { journal = st.journal; blocks = st.blocks }) v.number u ne
             ∙ sym (ap (λ (o : Option ℕ). note_for o (record { journal = st.journal; blocks = st.blocks }) u) free);
         grows = starts_itself st.journal;
@@ -111,7 +112,7 @@ module _ {X : Type 0} (named : X → Named) (bounds : Bounds) where
   another : (s : State (Option X) View) (r : Rule named bounds s) (id : ℕ) (v : View) (p t : ℕ) → IsSeat s.views id v → note_of v p ≡ None → (r.book p).holder ≡ Some t → t ≢ v.number
   another s r id v p t seat free held e =
       let note : Note = record { journal = (r.book p).journal; blocks = (r.book p).blocks } in
-      none_not_some note (sym free ∙ r.notes id v seat p ∙ ap (λ (o : Option ℕ). note_for o note v.number) (held ∙ ap Some e) ∙ note_itself note v.number)
+      none-some note (sym free ∙ r.notes id v seat p ∙ ap (λ (o : Option ℕ). note_for o note v.number) (held ∙ ap Some e) ∙ note_itself note v.number)
 
   few_seats : (s : State (Option X) View) (r : Rule named bounds s) (p t : ℕ) → (r.book p).holder ≡ Some t → t ≤ 65534
   few_seats s r p t held = let q = r.holders p t held in let rank = (r.ranks q.0 q.1 q.2).2 in let few = r.roster.few in let e = q.3 in omega arith

@@ -7,6 +7,7 @@ use lib.ListN.{get_elem?}
 use Rattle.std.specs.Prelude.{Option, Some, None, is_some, slice_get, slice_index}
 use Rattle.std.specs.List.{flat_map}
 use Rattle.atomic_table.specs.Table.{State}
+use Rattle.std.proofs.lemmas.Option.{none-some, same_Some}
 use Rattle.session_table.specs.declared.view.Bounds.{Bounds}
 use Rattle.session_table.specs.declared.view.Joined.{Joined}
 use Rattle.session_table.specs.declared.view.Note.{Note}
@@ -16,7 +17,6 @@ use Rattle.session_table.specs.Named.{Named}
 use Rattle.session_table.specs.Seats.{joined_as}
 use Rattle.session_table.specs.Rule.{IsHome, Lies, note_for, times, times_up_to, DrawnOnce, Rule}
 use Rattle.session_table.specs.Ends.{HoldsNothing, HasJoinedAll, IsLeft, StandOnce, Leaves}
-use Rattle.session_table.proofs.Keeps.{none_not_some, some_same}
 use Rattle.session_table.proofs.Book.{note_itself}
 
 true_not_false : true ≡ false → ⊥
@@ -77,12 +77,12 @@ module _ {X : Type 0} (named : X → Named) where
   long_rest (y ∷ ys) n e = omega arith
 
   got_within : (xs : List X) (i : ℕ) (x : X) → slice_get xs i ≡ Some x → i < length xs
-  got_within [] i x e = absurd (none_not_some x e)
+  got_within [] i x e = absurd (none-some x e)
   got_within (y ∷ ys) zero x e = omega arith
   got_within (y ∷ ys) (suc i) x e = let h = got_within ys i x e in omega arith
 
   some_there : (xs : List X) (i : ℕ) (x : X) → slice_get xs i ≡ Some x → get_elem? (map (λ (z : X). Some z) xs) i ≡ maybe.some (Some x)
-  some_there [] i x e = absurd (none_not_some x e)
+  some_there [] i x e = absurd (none-some x e)
   some_there (y ∷ ys) zero x e = ap (λ (z : Option X). maybe.some z) e
   some_there (y ∷ ys) (suc i) x e = some_there ys i x e
 
@@ -90,7 +90,7 @@ module _ {X : Type 0} (named : X → Named) where
   value_there xs [] i x y is e got = absurd (some-ne-none (Some y) (sym got))
   value_there xs (z ∷ zs) i x y is e got =
       let there : get_elem? zs i ≡ maybe.some (Some y) = subst (λ (k : ℕ). get_elem? (z ∷ zs) k ≡ maybe.some (Some y)) (let q : i + 1 ≡ suc i = omega arith in q) got in
-      some_same y x (some-injective (Some y) (Some x) (sym there ∙ ap (λ (l : List (Option X)). get_elem? l i) is ∙ some_there xs i x e))
+      same_Some y x (some-injective (Some y) (Some x) (sym there ∙ ap (λ (l : List (Option X)). get_elem? l i) is ∙ some_there xs i x e))
 
   -- ---- the last state
 
@@ -102,7 +102,7 @@ module _ {X : Type 0} (named : X → Named) where
         let note : Note = record { journal = (r.book p).journal; blocks = (r.book p).blocks } in
         elim (ℕ_discrete t 0) as (λ _. ⊥) [
           | yes e ↦
-              none_not_some note (sym (idle p) ∙ r.notes id v (at, live) p ∙ ap (λ (o : Option ℕ). note_for o note v.number) (held ∙ ap Some (e ∙ sym is_root)) ∙ note_itself note v.number)
+              none-some note (sym (idle p) ∙ r.notes id v (at, live) p ∙ ap (λ (o : Option ℕ). note_for o note v.number) (held ∙ ap Some (e ∙ sym is_root)) ∙ note_itself note v.number)
           | no ne ↦
               let few : u.number ≤ r.made = rank.2 in let made : v.made ≡ r.made = root.0 in
               let is = alone t (omega arith) (omega arith) in

@@ -9,6 +9,7 @@ use lib.ListN.{get_elem?}
 use Rattle.std.specs.Prelude.{Option, Some, None, slice_index}
 use Rattle.std.specs.List.{AllByRecursion}
 use Rattle.atomic_table.specs.Table.{State, Act, keeps, Valid, stepped, step, carried_after, Allows}
+use Rattle.std.proofs.lemmas.Option.{same_Some}
 use Rattle.session_table.specs.declared.view.Bounds.{Bounds}
 use Rattle.session_table.specs.declared.view.Line.{Line}
 use Rattle.session_table.specs.declared.view.Note.{Note}
@@ -20,7 +21,7 @@ use Rattle.session_table.specs.Rule.{IsSeat, Stand, Lies, Stands, IsOut, note_fo
 use Rattle.session_table.specs.Tells.{Seated, Passes, looks, draws}
 use Rattle.session_table.proofs.Journals.{starts_itself}
 use Rattle.session_table.proofs.Seating.{total-set}
-use Rattle.session_table.proofs.Keeps.{IsSame, steps, some_same}
+use Rattle.session_table.proofs.Keeps.{IsSame, steps}
 use Rattle.session_table.proofs.Book.{put, put_here, put_else, put_each, moves_none, moves_put, noted_stands, note_itself, note_else, lies_same}
 use Rattle.session_table.proofs.Blocks.{drawn_more, drawn_past, all_below}
 use Rattle.session_table.proofs.Claiming.{notes_line, seen_line, stays}
@@ -91,7 +92,7 @@ module _ {X : Type 0} (named : X → Named) (bounds : Bounds) where
                   (let t = total-set one_if_pending s.views id v (passed v n) at in
                   let now : one_if_pending (passed v n) ≡ 0 = ap (λ (a : Bool). cond a 0 0) live in
                   let next = r.next in omega arith)
-                  (λ m is. let e : n ≡ m = some_same n m is in (omega arith, omega arith)),
+                  (λ m is. let e : n ≡ m = same_Some n m is in (omega arith, omega arith)),
               ((λ le. absurd (omega arith)), λ _. passes s r id v c seat above),
             )
       ]
@@ -113,7 +114,7 @@ module _ {X : Type 0} (named : X → Named) (bounds : Bounds) where
       let now : one_if_pending w ≡ 0 = ap (λ (a : Bool). cond a 0 0) seat.1 in
       let next = r.next in omega arith)
       (omega arith)
-      (λ m is. let e : n ≡ m = some_same n m is in (omega arith, omega arith))
+      (λ m is. let e : n ≡ m = same_Some n m is in (omega arith, omega arith))
 
   -- a block was drawn for the partition p
   draws_block : (s : State (Option X) View) (r : Rule named bounds s) (id : ℕ) (v : View) (c : List (ℕ × Option X)) (p : ℕ) (note : Note) → IsSeat s.views id v → v.pending ≡ true → 1 ≤ p → p ≤ bounds.partitions
@@ -133,7 +134,7 @@ module _ {X : Type 0} (named : X → Named) (bounds : Bounds) where
       (λ q ne a b. lies_same named s words s.homes views q (get_or-set_other s.words 0 q (n + 1) 0 (λ e. omega arith)) refl
       (r.book q).holder (r.book q).journal (r.book q).blocks (r.stands q a b)))
       (moves_put v.number r.book p st record {
-        holds = λ u e. inl (sym (some_same v.number u e));
+        holds = λ u e. inl (sym (same_Some v.number u e));
         notes = λ u ne. note_else (record { journal = st.journal; blocks = st.blocks }) v.number u ne
             ∙ sym (ap (λ (o : Option ℕ). note_for o (record { journal = old.journal; blocks = old.blocks }) u) held
             ∙ note_else (record { journal = old.journal; blocks = old.blocks }) v.number u ne);

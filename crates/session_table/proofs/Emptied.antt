@@ -4,12 +4,12 @@ use mathlib.Core.Option.{some-injective, some-ne-none}
 use mathlib.Core.Option as maybe
 use lib.ListN.{get_elem?}
 use Rattle.std.specs.Prelude.{Option, Some, None}
-use Rattle.session_table.proofs.Keeps.{none_not_some}
+use Rattle.std.proofs.lemmas.Option.{none-some}
 
 module _ {X : Type 0} where
   none_there : (xs : List X) (i : ℕ) → get_elem? (map (λ (x : X). Some x) xs) i ≡ maybe.some None → ⊥
   none_there [] i e = some-ne-none None (sym e)
-  none_there (x ∷ xs) zero e = none_not_some x (sym (some-injective (Some x) None e))
+  none_there (x ∷ xs) zero e = none-some x (sym (some-injective (Some x) None e))
   none_there (x ∷ xs) (suc i) e = none_there xs i e
 
   pub not_empty : (slots : List (Option X)) (xs : List X) (i : ℕ) → drop 1 slots ≡ map Some xs → get_elem? slots (i + 1) ≡ maybe.some None → ⊥

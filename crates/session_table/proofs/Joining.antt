@@ -7,6 +7,7 @@ use lib.ListN.{get_elem?}
 use Rattle.std.specs.Prelude.{Option, Some, None, IsSome, slice_index, nat_lt}
 use Rattle.std.proofs.lemmas.Bool.{cond_above}
 use Rattle.atomic_table.specs.Table.{State, Joins, Allows, keeps, step}
+use Rattle.std.proofs.lemmas.Option.{none-some, same_Some}
 use Rattle.session_table.specs.Tells.{meets}
 use Rattle.session_table.proofs.Journals.{starts_itself}
 use Rattle.std.proofs.lemmas.List.{set-get_or}
@@ -24,7 +25,6 @@ use Rattle.session_table.specs.Seats.{blank_line, line_in, seen_of, mine_of, not
 use Rattle.session_table.specs.Steps.{greater, line_of_both, joined_by, nobody}
 use Rattle.session_table.specs.Rule.{IsSeat, EachSeat, IsSeated, note_for, HaveNumbers, Roster, total, one_if_seat, one_if_pending, Rule}
 use Rattle.session_table.proofs.Seating.{placed, seat_set, others_differ, total-set}
-use Rattle.session_table.proofs.Keeps.{none_not_some, some_same}
 use Rattle.session_table.proofs.Book.{note_itself, lies_same}
 use Rattle.session_table.specs.Seats.{line_here, line_there}
 
@@ -62,7 +62,7 @@ greater_past : {P : ℕ → Type 0} (a b : Option ℕ) → ((m : ℕ) → a ≡ 
 greater_past None b left right m is = right m is
 greater_past (Some x) None left right m is = left m is
 greater_past {P} (Some x) (Some y) left right m is =
-    subst P (some_same (max x y) m is) (elim (dec_le x y) as (λ _. P (max x y)) [
+    subst P (same_Some (max x y) m is) (elim (dec_le x y) as (λ _. P (max x y)) [
       | yes le ↦ subst P (let e : y ≡ max x y = omega arith in e) (right y refl)
       | no gt ↦ subst P (let e : x ≡ max x y = omega arith in e) (left x refl)
     ])
@@ -133,7 +133,7 @@ module _ {X : Type 0} (named : X → Named) (bounds : Bounds) (s : State (Option
     not_child : (p t : ℕ) → (r.book p).holder ≡ Some t → t ≢ w.number
     not_child p t held e =
         let note : Note = record { journal = (r.book p).journal; blocks = (r.book p).blocks } in
-        none_not_some note (sym (free p) ∙ r.notes other w child p ∙ ap (λ (o : Option ℕ). note_for o note w.number) (held ∙ ap Some e) ∙ note_itself note w.number)
+        none-some note (sym (free p) ∙ r.notes other w child p ∙ ap (λ (o : Option ℕ). note_for o note w.number) (held ∙ ap Some e) ∙ note_itself note w.number)
 
     numbers : HaveNumbers After
     numbers i j a b one two e = ⊎_elim
@@ -175,13 +175,13 @@ module _ {X : Type 0} (named : X → Named) (bounds : Bounds) (s : State (Option
       ];
       kept = λ t j is p. elim (ℕ_discrete w.number t) as (λ _. (line_in j.lines p).mine ≡ only t (r.book p).journal) [
         | yes e ↦
-            let same : Child ≡ j = some_same Child j (sym (kept_new Child r.joined t e) ∙ is) in
+            let same : Child ≡ j = same_Some Child j (sym (kept_new Child r.joined t e) ∙ is) in
             ap (λ (k : Joined). (line_in k.lines p).mine) (sym same) ∙ (r.seen other w child p).1 ∙ ap (λ (n : ℕ). only n (r.book p).journal) e
         | no away ↦ old.kept t j (sym (kept_old Child r.joined t away) ∙ is) p
       ];
       seen = λ t j is p. elim (ℕ_discrete w.number t) as (λ _. StartsWith (r.book p).journal (line_in j.lines p).seen × StartsWith (r.book p).journal (line_in j.found p).seen) [
         | yes e ↦
-            let same : Child ≡ j = some_same Child j (sym (kept_new Child r.joined t e) ∙ is) in
+            let same : Child ≡ j = same_Some Child j (sym (kept_new Child r.joined t e) ∙ is) in
             subst (λ (k : Joined). StartsWith (r.book p).journal (line_in k.lines p).seen × StartsWith (r.book p).journal (line_in k.found p).seen) same
             ((r.seen other w child p).0, (r.seen id v seat p).0)
         | no away ↦ old.seen t j (sym (kept_old Child r.joined t away) ∙ is) p

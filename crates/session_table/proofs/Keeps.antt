@@ -2,8 +2,9 @@
 use Rattle.std.proofs.Common.{◌≡◌, ◌≢◌, ◌⊎◌, ℕ, ◌+◌, ◌≤◌, false, ap, sym, subst, ◌∙◌, inl, inr, ⊎_elim, arith, List, length, set}
 use mathlib.Core.Option.{some, none}
 use mathlib.Core.Option as maybe
-use Rattle.std.specs.Prelude.{Option, Some, None, slice_index, unwrap_or}
+use Rattle.std.specs.Prelude.{Option, Some, None, slice_index}
 use Rattle.atomic_table.specs.Table.{State}
+use Rattle.std.proofs.lemmas.Option.{none-some}
 use Rattle.session_table.specs.declared.view.Bounds.{Bounds}
 use Rattle.session_table.specs.declared.view.Joined.{Joined}
 use Rattle.session_table.specs.declared.view.View.{View}
@@ -41,14 +42,8 @@ ranks_same made joined v w same (root, others, few, apart) = (
   ap (joined_as joined) same.number ∙ apart,
 )
 
-pub none_not_some : {A : Type 0} (a : A) → None ≡ Some a → ⊥
-none_not_some a e = cc
-
-pub some_same : {A : Type 0} (a b : A) → Some a ≡ Some b → a ≡ b
-some_same a b e = ap (λ (o : Option _). unwrap_or o a) e
-
 some_is_some : {A : Type 0} (o : Option A) (a : A) → o ≡ None → o ≡ Some a → ⊥
-some_is_some o a e f = none_not_some a (sym e ∙ f)
+some_is_some o a e f = none-some a (sym e ∙ f)
 
 roster_moved : (book book' : ℕ → Stand) (made : ℕ) (joined : List Joined) (views : List View) (id : ℕ) (v w : View) → Roster book made joined views → IsSeat views id v → IsSame v w
     → joined_as joined v.number ≡ None → v.number ≤ made → ((p : ℕ) → Moves v.number (book p) (book' p)) → Roster book' made joined (set views id w)

@@ -12,7 +12,7 @@ use Rattle.session_table.specs.declared.view.View.{View}
 use Rattle.session_table.specs.Named.{Named, opening, openings}
 use Rattle.session_table.specs.Seats.{root}
 use Rattle.session_table.specs.Rule.{EachSeat, IsHome, times, times_up_to, DrawnOnce, Rule}
-use Rattle.session_table.proofs.Keeps.{none_not_some}
+use Rattle.std.proofs.lemmas.Option.{none-some}
 
 -- ---- the blocks
 
@@ -117,7 +117,7 @@ module _ {X : Type 0} (named : X → Named) where
         begun = omega arith;
         session = each_one _ (root bounds) refl;
         stands = λ p one within. home bounds xs words is long opening_now p one within;
-        holders = λ p t held. absurd (none_not_some t held);
+        holders = λ p t held. absurd (none-some t held);
         notes = each_one _ (root bounds) (λ p. refl);
         numbers = λ i j v w one two e. (only_one (root bounds) v i one.0).0 ∙ sym (only_one (root bounds) w j two.0).0;
         seen = each_one _ (root bounds) (λ p. (([], refl), refl));
@@ -129,11 +129,11 @@ module _ {X : Type 0} (named : X → Named) where
           few = omega arith;
           apart = tt;
           numbered = λ s is. absurd (true_not_false (sym is));
-          kept = λ s j is p. absurd (none_not_some j is);
-          seen = λ s j is p. absurd (none_not_some j is);
+          kept = λ s j is p. absurd (none-some j is);
+          seen = λ s j is p. absurd (none-some j is);
           unmade = λ s above p. refl;
         };
         drawn = drawn bounds (slice_index words 0) next most;
         next = omega arith;
-        past = each_one _ (root bounds) (λ m e. absurd (none_not_some m e));
+        past = each_one _ (root bounds) (λ m e. absurd (none-some m e));
       }

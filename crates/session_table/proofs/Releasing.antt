@@ -18,7 +18,7 @@ use Rattle.session_table.specs.Slots.{IsNoted}
 use Rattle.session_table.specs.Rule.{IsSeat, Stand, note_for, Rule}
 use Rattle.session_table.specs.Tells.{frees}
 use Rattle.session_table.proofs.Journals.{starts_itself, continues_starts, continues_others}
-use Rattle.session_table.proofs.Keeps.{none_not_some}
+use Rattle.std.proofs.lemmas.Option.{none-some}
 use Rattle.session_table.proofs.Book.{noted_stands, note_else}
 use Rattle.session_table.proofs.Claiming.{notes_line, seen_line, stands_at}
 
@@ -46,7 +46,7 @@ module _ {X : Type 0} (named : X → Named) (bounds : Bounds) where
               seen = λ i. record { number = fits.number i; holder = fits.free i; blocks = y.blocks; journal = y.journal };
             }
             record {
-              holds = λ u e. absurd (none_not_some u e);
+              holds = λ u e. absurd (none-some u e);
               notes = λ u ne. sym (ap (λ (o : Option ℕ). note_for o (record { journal = old.journal; blocks = old.blocks }) u) found.0
                   ∙ note_else (record { journal = old.journal; blocks = old.blocks }) v.number u ne);
               grows = continues_starts v.number old.journal y.journal grown;

@@ -16,7 +16,7 @@ use Rattle.session_table.specs.Tells.{note_from}
 use Rattle.session_table.specs.Calls.{with_slot, slot_here, slot_there}
 use Rattle.session_table.specs.Seats.{line_here, line_there}
 use Rattle.session_table.proofs.Journals.{continues_itself}
-use Rattle.session_table.proofs.Keeps.{none_not_some}
+use Rattle.std.proofs.lemmas.Option.{none-some}
 
 -- ---- one slot
 
@@ -49,7 +49,7 @@ module _ {X : Type 0} (named : X → Named) where
   times_none : (p : ℕ) (c : List (ℕ × Option X)) → in_slot named c p ≡ None → times_held p c ≡ 0
   times_none p [] e = refl
   times_none p (x ∷ xs) e = elim (ℕ_discrete x.0 p) as (λ _. times_held p (x ∷ xs) ≡ 0) [
-    | yes is ↦ absurd (none_not_some (option_map named x.1) (sym e ∙ slot_here (in_slot named xs) x.0 p (Some (option_map named x.1)) is))
+    | yes is ↦ absurd (none-some (option_map named x.1) (sym e ∙ slot_here (in_slot named xs) x.0 p (Some (option_map named x.1)) is))
     | no ne ↦ hit_there x.0 p x.1 xs ne ∙ times_none p xs (sym (slot_there (in_slot named xs) x.0 p (Some (option_map named x.1)) ne) ∙ e)
   ]
 
@@ -108,7 +108,7 @@ module _ {X : Type 0} (named : X → Named) where
 
   within_fewer : (v : View) (l : Line) → l.note ≡ None → Within v v.lines → Within v (l ∷ v.lines)
   within_fewer v l none has q note is = elim (ℕ_discrete l.partition q) as (λ _. (1 ≤ q) × (q ≤ v.bounds.partitions)) [
-    | yes e ↦ absurd (none_not_some note (sym none ∙ ap (λ (k : Line). k.note) (sym (line_here l v.lines q e)) ∙ is))
+    | yes e ↦ absurd (none-some note (sym none ∙ ap (λ (k : Line). k.note) (sym (line_here l v.lines q e)) ∙ is))
     | no ne ↦ has q note (sym (ap (λ (k : Line). k.note) (line_there l v.lines q ne)) ∙ is)
   ]
 

@@ -18,7 +18,7 @@ use Rattle.session_table.specs.Seats.{line_in, seen_of, mine_of, note_of, joined
 use Rattle.session_table.specs.Steps.{made_one, only_seen, newcomer}
 use Rattle.session_table.specs.Rule.{IsSeat, EachSeat, IsSeated, Stand, note_for, HaveNumbers, Roster, one_if_seat, one_if_pending, Rule}
 use Rattle.session_table.proofs.Seating.{seat_set, seated_set, numbers_set, others_differ, counted_set, total-set, total-snoc}
-use Rattle.session_table.proofs.Keeps.{none_not_some}
+use Rattle.std.proofs.lemmas.Option.{none-some}
 use Rattle.session_table.proofs.Book.{note_else, lies_same}
 
 at_end : (l : List View) (b u : View) (j : ℕ) → get_elem? (l ++ b ∷ []) j ≡ maybe.some u → (get_elem? l j ≡ maybe.some u) ⊎ ((j ≡ length l) × (b ≡ u))
@@ -163,7 +163,7 @@ module _ {X : Type 0} (named : X → Named) (bounds : Bounds) (s : State (Option
       next =
           let a = total-snoc one_if_pending Left (newcomer v) in let b = total-set one_if_pending s.views id v (made_one v) seat.0 in
           let n = r.next in omega arith;
-      past = each (λ j u _ at. r.past j u at) (r.past id v seat) (λ m is. absurd (none_not_some m is));
+      past = each (λ j u _ at. r.past j u at) (r.past id v seat) (λ m is. absurd (none-some m is));
     }
 
 module _ {X : Type 0} (named : X → Named) (bounds : Bounds) where

@@ -2,6 +2,7 @@
 use Rattle.std.proofs.Common.{◌≡◌, ℕ, ◌+◌, ◌<◌, ◌≤◌, ap, sym, refl, subst, ◌∙◌, List, [], ◌∷◌, ◌++◌}
 use Rattle.std.specs.Prelude.{Option, Some, None, option_map}
 use Rattle.atomic_table.specs.Table.{turned, rest}
+use Rattle.std.proofs.lemmas.Option.{none-some, same_Some}
 use Rattle.session_table.specs.declared.view.Line.{Line}
 use Rattle.session_table.specs.declared.view.Note.{Note}
 use Rattle.session_table.specs.declared.view.View.{View}
@@ -13,7 +14,6 @@ use Rattle.session_table.specs.Steps.{noted, looked_at, let_go, passed, drew}
 use Rattle.session_table.specs.Tells.{Seated, note_from, Wins, Loses, Frees, Passes, Draws}
 use Rattle.session_table.specs.Faces.{Face}
 use Rattle.session_table.specs.Calls.{with_slot, slot_here, HasWon, HasLost, LetsGo, HasPassed, HasDrawn, IsNotedBy}
-use Rattle.session_table.proofs.Keeps.{none_not_some, some_same}
 use Rattle.session_table.specs.Seats.{line_here, line_there}
 use Rattle.session_table.proofs.Rows.{no_note, carries_claimed, carries_same, carries_swapped, carries_replaced, carries_let_go, swapped, slots_claimed, slots_replaced, slots_let_go}
 
@@ -96,7 +96,7 @@ module _ {X : Type 0} (named : X → Named) where
 
   filled_slot : (me : Seated X) (p : ℕ) (x : Named) (slot : Option X) → Holds named me → me.1 ≡ (p, slot) ∷ rest me.1 → in_slot named me.1 p ≡ Some (Some x) → InFront me p
   filled_slot me p x None has is filled =
-      absurd (none_not_some x (some_same (option_map named None) (Some x) (sym (front_slot me p record { slot = None; is = is }) ∙ filled)))
+      absurd (none-some x (same_Some (option_map named None) (Some x) (sym (front_slot me p record { slot = None; is = is }) ∙ filled)))
   filled_slot me p x (Some value) has is filled =
       let noted = noted_there me p (named value) has (front_slot me p record { slot = Some value; is = is }) in
       record { value = value; is = is; noted = noted; within = has.within p noted.0 noted.1 }
@@ -110,7 +110,7 @@ module _ {X : Type 0} (named : X → Named) where
   empty_slot : (me : Seated X) (p : ℕ) (slot : Option X) → me.1 ≡ (p, slot) ∷ rest me.1 → in_slot named me.1 p ≡ Some None → slot ≡ None
   empty_slot me p None is empty = refl
   empty_slot me p (Some value) is empty =
-      absurd (none_not_some (named value) (some_same None (option_map named (Some value)) (sym empty ∙ front_slot me p record { slot = Some value; is = is })))
+      absurd (none-some (named value) (same_Some None (option_map named (Some value)) (sym empty ∙ front_slot me p record { slot = Some value; is = is })))
 
   pub empty_front : (old mid : Seated X) (p : ℕ) → IsTurned old mid → (inf : IsInFront p mid) → Holds named old → in_slot named old.1 p ≡ Some None → inf.slot ≡ None
   empty_front old mid p turns inf has empty =
@@ -203,7 +203,7 @@ module _ {X : Type 0} (named : X → Named) where
 
   no_row : (c : List (ℕ × Option X)) → ((p : ℕ) → in_slot named c p ≡ None) → c ≡ []
   no_row [] h = refl
-  no_row (x ∷ xs) h = absurd (none_not_some (option_map named x.1) (sym (h x.0) ∙ slot_here (in_slot named xs) x.0 x.0 (Some (option_map named x.1)) refl))
+  no_row (x ∷ xs) h = absurd (none-some (option_map named x.1) (sym (h x.0) ∙ slot_here (in_slot named xs) x.0 x.0 (Some (option_map named x.1)) refl))
 
   -- a seat without notes holds no slot
   pub idle_row : (me : Seated X) → Holds named me → ((p : ℕ) → note_of me.0 p ≡ None) → me.1 ≡ []

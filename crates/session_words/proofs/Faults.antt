@@ -14,6 +14,7 @@ use Rattle.clap.specs.Faults.{bundle_fault, bundle_step_fault, flag_word_fault, 
 use Rattle.clap.specs.Walk.{Held, Step, Walk, after_flag, bundle_met, bundle_step, has_row, idle, long_or_other, nothing_held, plain, short_or_plain, trailing, walk_from}
 use Rattle.clap.specs.Simple.{filled, help_rule, with_index}
 use Rattle.clap.specs.declared.error.kind.ErrorKind.TheVariants.{ArgumentConflict}
+use Rattle.std.proofs.lemmas.Option.{same_Some}
 use Rattle.session_words.specs.Words.{serial_flag, the_app}
 
 -- ---- lists of kinds
@@ -58,15 +59,12 @@ name_and_value-alone : (text name : Text) → name_and_value text ≡ (name, Non
 name_and_value-alone text name e =
     sym (before_first-none (λ x. x == 61) text (no_value (has_byte 61 text) _ (ap (λ p. p.1) e))) ∙ ap (λ p. p.0) e
 
-some-inner : {X : Type 0} (x y : X) → Some x ≡ Some y → x ≡ y
-some-inner x y e = cc
-
 long_of-word : (word name : Text) → long_of word ≡ Some (name, None) → word ≡ 45 ∷ 45 ∷ name
 long_of-word word name e = first (strip_byte 45 word) refl e
   where
     third : (rest : Text) → long_of_rest rest ≡ Some (name, None) → rest ≡ name
     third [] e = cc
-    third (x ∷ xs) e = name_and_value-alone (x ∷ xs) name (some-inner _ _ e)
+    third (x ∷ xs) e = name_and_value-alone (x ∷ xs) name (same_Some _ _ e)
 
     second : (rest : Text) (o : Option Text) → strip_byte 45 rest ≡ o → option_and_then long_of_rest o ≡ Some (name, None) → rest ≡ 45 ∷ name
     second rest None t e = cc

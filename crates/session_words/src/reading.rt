@@ -85,6 +85,3 @@ fn refusal_of(kind: ErrorKind) -> WordsNo
         _ => WordsNo::Bad,
     }
 }
-
-#[cfg(test)]
-mod tests;

@@ -16,7 +16,7 @@ use Rattle.pk_base.specs.declared.entity.Class.{Class}
 use Rattle.pk_base.specs.declared.entity.Class.TheVariants as class
 use Rattle.pk_model.specs.Apart.{NoRepeats}
 use Rattle.pk_model.specs.Maps.{EntityMap, tag_cmp}
-use Rattle.pk_model.proofs.TagLists.{ByRecursion-at}
+use Rattle.list_facts.proofs.Each.{ByRecursion-at}
 use Rattle.entity_store.proofs.Live.{all_found}
 use Rattle.solid_model.specs.Items.{Item, Shape, item_at, class_of_item}
 use Rattle.solid_model.specs.Items.Item.{Body, Shell, Face, Loop, Fin, Edge, Vertex, Attr}
@@ -25,13 +25,14 @@ use Rattle.solid_model.specs.Rings.{is_among}
 use Rattle.solid_model.specs.Room.{deaths}
 use Rattle.solid_model.specs.Shapes.{item_of, shape_of}
 use Rattle.solid_model.specs.Sound.{IsSound, class_at}
-use Rattle.solid_sound.proofs.Attributes.{no_attribute_of}
-use Rattle.solid_sound.proofs.Bodies.{item_of_class}
-use Rattle.solid_sound.proofs.Names.{NotAttr}
-use Rattle.solid_sound.proofs.Lists.{contains_first, differs_means, is_among-in, not_among, not_same, one_if, same_itself, same_means}
-use Rattle.solid_sound.proofs.Reading.{find-map}
-use Rattle.solid_sound.proofs.RowKeeps.{well-shape}
-use Rattle.solid_sound.proofs.Sums.{Weight, weight_at, sum-alike, sum-but, sum-nothing}
+use Rattle.solid_sound.proofs.shapes.Attributes.{no_attribute_of}
+use Rattle.solid_sound.proofs.shapes.Bodies.{item_of_class}
+use Rattle.solid_sound.proofs.shapes.Names.{NotAttr}
+use Rattle.solid_sound.proofs.lists.Neighbours.{differs_means, is_among-in, not_among, not_same, one_if, same_itself, same_means}
+use Rattle.solid_sound.proofs.shapes.Reading.{find-map}
+use Rattle.solid_sound.proofs.rows.RowKeeps.{well-shape}
+use Rattle.solid_sound.proofs.shapes.Sums.{Weight, weight_at, sum-alike, sum-but, sum-nothing}
+use Rattle.list_facts.proofs.Elements.{Contains-first}
 use Rattle.solid_calls.specs.Attributes.{attributes_on, is_attribute_on}
 
 -- all of the owners' attributes
@@ -133,7 +134,7 @@ module _ (S : Shape) (t : Tag) (ts : List Tag) (once : NoRepeats (t ∷ ts)) (ma
       omega (arith, now, rest, none, among_once owner t ts once)
     where
       is-among_first : u ≡ t → is_among u (t ∷ ts) ≡ true
-      is-among_first e = is_among-in u (t ∷ ts) (subst (Contains (t ∷ ts)) (sym e) (contains_first t ts))
+      is-among_first e = is_among-in u (t ∷ ts) (subst (Contains (t ∷ ts)) (sym e) (Contains-first t ts))
   dies_once u (Body shell) is = plain u (Body shell) (λ e. cc) refl
   dies_once u (Shell body q) is = plain u (Shell body q) (λ e. cc) refl
   dies_once u (Face shell outer) is = plain u (Face shell outer) (λ e. cc) refl

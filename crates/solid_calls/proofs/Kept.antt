@@ -10,7 +10,7 @@ use Rattle.solid_model.specs.Rows.Effect.{Makes, Changes, Tells}
 use Rattle.solid_model.specs.Shapes.{shape_of}
 use Rattle.solid_model.specs.Sound.{IsSound}
 use Rattle.solid_model.specs.Euler.{cost_of}
-use Rattle.solid_sound.proofs.RowKeeps.{IsWell, Keeps, sound-links, well-shape}
+use Rattle.solid_sound.proofs.rows.RowKeeps.{IsWell, Keeps, sound-links, well-shape}
 use Rattle.solid_calls.specs.Pairs.{reached, row_on}
 
 pub reached-well : (S : Shape) (tags : List Tag) (row : Row) → IsWell S → cost_of row ≤ length tags → Keeps tags row → IsWell (reached S tags row)

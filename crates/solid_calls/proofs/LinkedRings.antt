@@ -1,6 +1,6 @@
 -- Rings of linked fins: a ring is read from any of its fins, and is written from any of them.
 use Rattle.std.proofs.Common.{◌≡◌, ℕ, zero, suc, ◌≤◌, List, [], ◌∷◌, length, drop, Option, Some, None, refl, sym, ap, subst, ◌∙◌, append-nil, arith}
-use Rattle.std.specs.Prelude.{T, IsSome, option_map, Contains}
+use Rattle.std.specs.Prelude.{T, IfSome, IsSome, option_map, Contains}
 use Rattle.std.specs.Option.{option_and_then, option_map_or}
 use Rattle.std.specs.List.{AllByRecursion}
 use Rattle.std.specs.FinMap.{entries, entries_sorted, get, get-entries, is_sorted}
@@ -13,16 +13,18 @@ use Rattle.pk_base.specs.declared.entity.Entity.{Entity}
 use Rattle.pk_base.specs.declared.entity.Entity.TheVariants as entity
 use Rattle.pk_model.specs.Apart.{NoRepeats}
 use Rattle.pk_model.specs.Maps.{EntityMap, tag_cmp}
-use Rattle.pk_model.proofs.TagLists.{ByRecursion-at, ByRecursion-contains}
 use Rattle.solid_model.specs.Items.{Item, item_at}
 use Rattle.solid_model.specs.Rings.{written_from, from_least, last_of, next_in, previous_in, neighbours}
 use Rattle.solid_model.specs.Shapes.{next_of, next_among, fins_until, item_of, shape_of}
 use Rattle.solid_model.proofs.Written.{is_sorted-map}
-use Rattle.solid_sound.proofs.Lists.{head_or, contains_first, not_in_nil, neighbour_of, neighbours-in}
-use Rattle.solid_sound.proofs.Cycles.{last-in, after_first, before_first, written-first, once-written, neighbours-written}
-use Rattle.solid_sound.proofs.Turned.{Turned, turned-back, turned-written, turned-least, turned-once, turned-all}
-use Rattle.solid_sound.proofs.Reading.{list-read, find-map, no_more_than_items}
-use Rattle.solid_calls.specs.LinkedRings.{as_fin, next_at, prev_at, AreLinked, IsRing, ring_at, IsInRing}
+use Rattle.solid_sound.proofs.lists.Neighbours.{head_or, neighbour_of, neighbours-in}
+use Rattle.solid_sound.proofs.lists.Cycles.{last-in, after_first, before_first, written-first, once-written, neighbours-written}
+use Rattle.solid_sound.proofs.lists.Turned.{Turned, turned-written, turned-least, turned-once, turned-all}
+use Rattle.solid_sound.proofs.shapes.Reading.{list-read, find-map, no_more_than_items}
+use Rattle.list_facts.proofs.Elements.{not_in_nil, Contains-first}
+use Rattle.list_facts.proofs.Each.{ByRecursion-contains, ByRecursion-at}
+use Rattle.solid_sound.proofs.shapes.Found.{mapped-live}
+use Rattle.solid_calls.specs.LinkedRings.{FinFields, as_fin, next_at, prev_at, AreLinked, IsRing, ring_at, ring_of_any, IsInRing}
 
 -- ---- a ring written from another of its fins
 
@@ -35,9 +37,6 @@ ring-turned m xs ys t r = record {
 
 pub ring-written : (m : EntityMap) (f : Tag) (ring : List Tag) → IsRing m ring → Contains ring f → IsRing m (written_from f ring)
 ring-written m f ring r k = ring-turned m ring (written_from f ring) (turned-written f ring) r
-
-pub ring-back : (m : EntityMap) (f : Tag) (ring : List Tag) → NoRepeats ring → Contains ring f → IsRing m (written_from f ring) → IsRing m ring
-ring-back m f ring once k r = ring-turned m (written_from f ring) ring (turned-back ring (written_from f ring) (turned-written f ring)) r
 
 pub ring-least : (m : EntityMap) (ring : List Tag) → IsRing m ring → IsRing m (from_least ring)
 ring-least m ring r = ring-turned m ring (from_least ring) (turned-least ring) r
@@ -117,10 +116,6 @@ live_fin (Some (entity.Attr owner name value)) g h = absurd (cc)
 pub next-read : (m : EntityMap) (f g : Tag) → next_at m f ≡ Some g → next_among (entries m) f ≡ g
 next-read m f g h = ap (λ o. option_map_or next_of o (tag 0)) (sym (get-entries m f)) ∙ (live_fin (get m f) g h).1
 
-some_mapped : {A B : Type 0} (h : A → B) (o : Option A) → IsSome o → IsSome (option_map h o)
-some_mapped h None k = k
-some_mapped h (Some a) k = refl
-
 -- a ring has no more fins than the map has entities
 pub ring-fits : (m : EntityMap) (ring : List Tag) → IsRing m ring → length ring ≤ length (entries m)
 ring-fits m ring r =
@@ -128,7 +123,7 @@ ring-fits m ring r =
     let sorted : T (is_sorted tag_cmp (shape_of m)) = subst T (sym (is_sorted-map (λ x. item_of es x.1) es)) (entries_sorted m) in
     let live : AllByRecursion (λ t. IsSome (item_at (shape_of m) t)) ring = ByRecursion-contains (λ t. IsSome (item_at (shape_of m) t)) ring (λ f k.
     subst (λ (o : Option Item). IsSome o) (sym (find-map (λ t e. item_of es e) f es))
-    (some_mapped (item_of es) (entries.find tag_cmp f es) (subst (λ (o : Option Entity). IsSome o) (get-entries m f) (live_fin (get m f) (next_in ring f) (ring-links m ring f r k).0).0))) in
+    (mapped-live (item_of es) (entries.find tag_cmp f es) (subst (λ (o : Option Entity). IsSome o) (get-entries m f) (live_fin (get m f) (next_in ring f) (ring-links m ring f r k).0).0))) in
     let n : length (shape_of m) ≡ length es = length-map es _ in
     omega (arith, no_more_than_items ring (shape_of m) sorted r.once live, n)
 
@@ -143,7 +138,7 @@ in-ring_from m f fins r =
     let is = ring_at-is m f fins r in
     record {
       ring = subst (IsRing m) (sym is) r;
-      among = subst (λ ts. Contains ts f) (sym is) (contains_first f fins);
+      among = subst (λ ts. Contains ts f) (sym is) (Contains-first f fins);
     }
 
 -- a list of fins that is read from f on begins with it
@@ -159,3 +154,31 @@ in-ring_starts m f h = until_starts (length (entries m)) (entries m) f f h.among
 pub in-ring_of : (m : EntityMap) (ring : List Tag) (f : Tag) → IsRing m ring → Contains ring f → IsInRing m f
 in-ring_of m ring f r k =
     in-ring_from m f (drop 1 (written_from f ring)) (subst (IsRing m) (written-first f ring k) (ring-written m f ring r k))
+
+-- a fin whose next and previous fins are itself
+pub ring_alone : (m : EntityMap) (f l mate edge vertex : Tag) → get m f ≡ Some (entity.Fin l f f mate edge vertex) → IsRing m (f ∷ [])
+ring_alone m f l mate edge vertex h = record {
+  once = (tt, tt);
+  linked = (
+    record {
+      next = ap (λ (o : Option Entity). option_map (λ (x : FinFields). x.next) (option_and_then as_fin o)) h;
+      prev = ap (λ (o : Option Entity). option_map (λ (x : FinFields). x.prev) (option_and_then as_fin o)) h;
+    },
+    tt,
+  );
+}
+
+-- ---- rings, where there is one
+
+pub any_ring : (m : EntityMap) (o : Option Tag) → IfSome o (IsInRing m) → IsRing m (ring_of_any m o)
+any_ring m None h = record { once = tt; linked = tt }
+any_ring m (Some f) h = h.ring
+
+-- it stays where its links stay
+pub ring_of_any-kept : (m n : EntityMap) (o : Option Tag) → IfSome o (IsInRing m) → ((t : Tag) → Contains (ring_of_any m o) t → (next_at n t ≡ next_at m t) × (prev_at n t ≡ prev_at m t))
+    → (ring_of_any n o ≡ ring_of_any m o) × IfSome o (IsInRing n)
+ring_of_any-kept m n None h same = (refl, tt)
+ring_of_any-kept m n (Some f) h same =
+    let starts = in-ring_starts m f h in
+    let is : IsRing n (f ∷ drop 1 (ring_at m f)) = subst (IsRing n) starts (ring-kept m n (ring_at m f) h.ring same) in
+    (ring_at-is n f (drop 1 (ring_at m f)) is ∙ sym starts, in-ring_from n f (drop 1 (ring_at m f)) is)

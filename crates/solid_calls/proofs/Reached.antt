@@ -1,5 +1,5 @@
 -- When a map is the one of a shape in which items were written, and others killed.
-use Rattle.std.proofs.Common.{◌≡◌, ◌≢◌, ⊎_elim, Bool, true, false, List, Some, None, refl, sym, ap, subst, ◌∙◌}
+use Rattle.std.proofs.Common.{◌≡◌, ⊎_elim, Bool, true, false, List, Some, None, refl, sym, ap, subst, ◌∙◌}
 use Rattle.std.specs.Prelude.{not, Contains}
 use Rattle.std.specs.List.{AllByRecursion}
 use Rattle.std.specs.FinMap.{get}
@@ -8,18 +8,19 @@ use Rattle.std.proofs.lemmas.Option.{same_Some}
 use Rattle.pk_base.specs.declared.tag.Tag.{Tag}
 use Rattle.pk_model.specs.Maps.{EntityMap}
 use Rattle.pk_model.specs.Apart.{NoRepeats}
-use Rattle.pk_model.proofs.TagLists.{ByRecursion-at}
+use Rattle.list_facts.proofs.Each.{ByRecursion-at}
 use Rattle.solid_model.specs.Items.{Item, Shape, item_at, ◌with◌}
 use Rattle.solid_model.specs.Deaths.{dies_with, ◌without◌}
 use Rattle.solid_model.specs.Links.{links}
-use Rattle.solid_sound.proofs.Found.{none_or_some}
-use Rattle.solid_sound.proofs.Lookups.{Items, tags_in, with-sorted, with-other, with-written, is_written, filter-kept, filter-was}
-use Rattle.solid_sound.proofs.RowKeeps.{IsWell}
+use Rattle.solid_sound.proofs.lists.Neighbours.{NoneOf}
+use Rattle.solid_sound.proofs.shapes.Found.{none_or_some}
+use Rattle.solid_sound.proofs.shapes.Lookups.{Items, tags_in, with-sorted, with-other, with-written, is_written, filter-kept, filter-was}
+use Rattle.solid_sound.proofs.rows.RowKeeps.{IsWell}
 use Rattle.solid_calls.proofs.Represented.{Shows, Represents, represented}
 
 -- the tag is none of those that are written
 abbrev pub IsUnwritten : Items → Tag → Type 0
-IsUnwritten xs t = AllByRecursion (λ u. t ≢ u) (tags_in xs)
+IsUnwritten xs t = NoneOf t (tags_in xs)
 
 -- ---- items are written
 

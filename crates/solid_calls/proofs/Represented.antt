@@ -15,7 +15,7 @@ use Rattle.pk_base.specs.declared.tag.Tag.{Tag}
 use Rattle.pk_base.specs.declared.entity.Entity.{Entity}
 use Rattle.pk_base.specs.declared.entity.Entity.TheVariants as entity
 use Rattle.pk_model.specs.Maps.{EntityMap, tag_cmp}
-use Rattle.pk_model.proofs.TagLists.{tag_total, tag_antisymmetric, same_from_tie, ByRecursion-at, ByRecursion-contains}
+use Rattle.pk_model.proofs.TagLists.{tag_total, tag_antisymmetric, same_from_tie}
 use Rattle.solid_model.specs.Items.{Item, Shape, item_at}
 use Rattle.solid_model.specs.Items.Item.{Body, Shell, Face, Loop, Fin, Edge, Vertex, Attr}
 use Rattle.solid_model.specs.Rings.{first_tag, written_from, next_in, previous_in}
@@ -24,14 +24,15 @@ use Rattle.solid_model.specs.Places.{fins_at}
 use Rattle.solid_model.specs.Links.{is_fin_of, fin_of_edge, entity_of, links}
 use Rattle.solid_model.specs.Shapes.{shape_of}
 use Rattle.solid_model.specs.Sound.{IsSound, fins_with_edge}
-use Rattle.solid_sound.proofs.Lists.{both_parts, same_itself, same_means}
-use Rattle.solid_sound.proofs.Found.{none_or_some, same_or_other, find-some, find-none, among-item, item-among}
-use Rattle.solid_sound.proofs.Reading.{fin_in, fins-once, loop-of_fin}
-use Rattle.solid_sound.proofs.FinRings.{ring_with, ring_owner, ring_fins}
-use Rattle.solid_sound.proofs.EdgeDeaths.{edge-other}
-use Rattle.solid_sound.proofs.RowKeeps.{IsWell, well-shape}
-use Rattle.solid_sound.proofs.OnlyShape.{shape-read}
-use Rattle.solid_sound.proofs.Asked.{get-links}
+use Rattle.solid_sound.proofs.lists.Neighbours.{both_parts, same_itself, same_means}
+use Rattle.solid_sound.proofs.shapes.Found.{none_or_some, same_or_other, find-some, find-none, among-item, item-among}
+use Rattle.solid_sound.proofs.shapes.Reading.{fin_in, fins-once, loop-of_fin}
+use Rattle.solid_sound.proofs.shapes.FinRings.{ring_with, ring_owner, ring_fins}
+use Rattle.solid_sound.proofs.edges.EdgeDeaths.{edge-other}
+use Rattle.solid_sound.proofs.rows.RowKeeps.{IsWell, well-shape}
+use Rattle.solid_sound.proofs.shapes.OnlyShape.{shape-read}
+use Rattle.solid_sound.proofs.rows.Asked.{get-links}
+use Rattle.list_facts.proofs.Each.{ByRecursion-contains, ByRecursion-at}
 use Rattle.solid_calls.specs.LinkedRings.{as_fin, next_at, prev_at, loop_named, IsRing, IsInRing, ring_at}
 use Rattle.solid_calls.proofs.LinkedRings.{ring_at-is, in-ring_from, ring-written, ring-kept, ring-links, links-ring}
 
@@ -318,12 +319,6 @@ ring-of_fin S m well shown f mate edge vertex is =
 
 -- ---- what a shown tag has
 
--- a fin of a loop is linked as in its list
-pub shown-loop_fins : (S : Shape) (m : EntityMap) → IsWell S → Represents S m → (l face : Tag) (fins : List Tag) (vertex : Option Tag) → item_at S l ≡ Some (Loop face fins vertex)
-    → (f : Tag) → Contains fins f → (mate edge start : Tag) → item_at S f ≡ Some (Fin mate edge start)
-    → get m f ≡ Some (entity.Fin l (next_in fins f) (previous_in fins f) mate edge start)
-shown-loop_fins S m well shown = fin_shown S m well shown
-
 -- a tag of the shape is live
 pub shown-live : (S : Shape) (m : EntityMap) (t : Tag) (x : Item) → Shows S m t x → IsSome (get m t)
 shown-live S m t (Body shell) h = ap is_some h
@@ -334,15 +329,3 @@ shown-live S m t (Fin mate edge vertex) h = ap is_some h.3
 shown-live S m t (Edge body) h = ap is_some h.1
 shown-live S m t (Vertex body point) h = ap is_some h
 shown-live S m t (Attr owner name value) h = ap is_some h
-
--- each tag of the shape is live in the map
-pub represents-live : (S : Shape) (m : EntityMap) → Represents S m → (t : Tag) (x : Item) → item_at S t ≡ Some x → IsSome (get m t)
-represents-live S m shown t x is = shown-live S m t x (shown.items t x is)
-
--- what is live in the map is an item of the shape, and is shown
-pub represents-item : (S : Shape) (m : EntityMap) → Represents S m → (t : Tag) (e : Entity) → get m t ≡ Some e → (x : Item) × (item_at S t ≡ Some x) × Shows S m t x
-represents-item S m shown t e h =
-    ⊎_elim {C = (x : Item) × (item_at S t ≡ Some x) × Shows S m t x}
-    (λ (none : item_at S t ≡ None). let both : None ≡ Some e = sym (shown.nothing t none) ∙ h in absurd (cc))
-    (λ (some : (x : Item) × (item_at S t ≡ Some x)). (some.0, some.1, shown.items t some.0 some.1))
-    (none_or_some (item_at S t))

@@ -10,11 +10,13 @@ use Rattle.pk_base.specs.Entity.{same_tag}
 use Rattle.pk_base.specs.declared.tag.Tag.{Tag}
 use Rattle.pk_base.specs.declared.entity.Entity.{Entity}
 use Rattle.pk_model.specs.Apart.{NoRepeats}
-use Rattle.pk_model.proofs.TagLists.{ByRecursion-append, ByRecursion-at, ByRecursion-contains, ByRecursion-map, ByRecursion-weaker, NoRepeats-append}
+use Rattle.pk_model.proofs.TagLists.{NoRepeats-append}
 use Rattle.entity_store.specs.Recording.{Recording, has_put, recorded_put, room_left, HasRoomFor}
 use Rattle.entity_store.specs.Recorder.{Records, began}
 use Rattle.entity_store.specs.Store.{StoreView}
-use Rattle.solid_sound.proofs.Lists.{contains_cases, not_in_nil, parts, same_itself}
+use Rattle.solid_sound.proofs.lists.Neighbours.{NoneOf, parts, same_itself}
+use Rattle.list_facts.proofs.Elements.{not_in_nil, Contains-cases}
+use Rattle.list_facts.proofs.Each.{ByRecursion-append, ByRecursion-weaker, ByRecursion-map, ByRecursion-contains, ByRecursion-at}
 use Rattle.solid_calls.specs.Room.{HasRoomForThese, IsUnput, PutsAmong}
 
 -- ---- as many as there is room for
@@ -33,7 +35,7 @@ no_more-different (u ∷ us) ts once among =
     left_out v pre post other h =
         ⊎_elim (λ (l : Contains pre v). Contains-append_left pre post v l)
         (λ (r : Contains (u ∷ post) v).
-        ⊎_elim (λ (e : u ≡ v). absurd (other e)) (λ (k : Contains post v). Contains-append_right pre post v k) (contains_cases u post v r))
+        ⊎_elim (λ (e : u ≡ v). absurd (other e)) (λ (k : Contains post v). Contains-append_right pre post v k) (Contains-cases u post v r))
         (Contains-append_cases pre (u ∷ post) v h)
 
 pub room-of_length : (r : Recording) (ts : List Tag) → length ts ≤ room_left r → HasRoomForThese r ts
@@ -63,7 +65,7 @@ put_among [] t h = absurd (not_in_nil t h)
 put_among (p ∷ ps) t h =
     ⊎_elim (λ (e : p.0 ≡ t). or_left (same_tag p.0 t) (has_put ps t) (subst (λ u. same_tag p.0 u ≡ true) e (same_itself p.0)))
     (λ (k : Contains (map (λ q. q.0) ps) t). or_right (same_tag p.0 t) (has_put ps t) (put_among ps t k))
-    (contains_cases p.0 (map (λ q. q.0) ps) t h)
+    (Contains-cases p.0 (map (λ q. q.0) ps) t h)
 
 -- one that was not put is none that was
 apart_from_put : (ps : List (Tag × Option Entity)) (t u : Tag) → has_put ps t ≡ false → Contains (map (λ p. p.0) ps) u → t ≢ u
@@ -80,7 +82,7 @@ pub room-after : (ts us : List Tag) (a b : StoreView) → HasRoomForThese a.reco
 room-after ts us a b room p part = λ vs once unput.
     let put : List Tag = map (λ q. q.0) p.more in
     let parts_of = λ (t : Tag) (h : IsUnput b.recording ts t). unput_parts a.recording.first p.more b.recording.first t p.recorded h.new in
-    let apart = ByRecursion-contains (λ v. AllByRecursion (λ u. v ≢ u) put) vs (λ v h. ByRecursion-contains (λ u. v ≢ u) put (λ u k. apart_from_put p.more v u (parts_of v (ByRecursion-at (IsUnput b.recording ts) vs v unput h)).1 k)) in
+    let apart = ByRecursion-contains (λ v. NoneOf v put) vs (λ v h. ByRecursion-contains (λ u. v ≢ u) put (λ u k. apart_from_put p.more v u (parts_of v (ByRecursion-at (IsUnput b.recording ts) vs v unput h)).1 k)) in
     let unput_vs : AllByRecursion (IsUnput a.recording ts) vs = ByRecursion-weaker (IsUnput b.recording ts) (IsUnput a.recording ts) (λ t h. record { among = h.among; new = (parts_of t h).0 }) vs unput in
     let unput_put : AllByRecursion (IsUnput a.recording ts) put = ByRecursion-weaker (IsUnput a.recording us) (IsUnput a.recording ts) (λ t h. record { among = part t h.among; new = h.new }) put (among_tags us a b p) in
     let fits = room (vs ++ put) (NoRepeats-append vs put once p.once apart) (ByRecursion-append (IsUnput a.recording ts) vs put unput_vs unput_put) in
@@ -125,7 +127,7 @@ puts-then ts a b c p q =
     let put : List Tag = map (λ x. x.0) p.more in
     let then : List Tag = map (λ x. x.0) q.more in
     let parts_of = λ (t : Tag) (h : IsUnput b.recording ts t). unput_parts a.recording.first p.more b.recording.first t p.recorded h.new in
-    let apart = ByRecursion-contains (λ v. AllByRecursion (λ u. v ≢ u) then) put (λ v h. ByRecursion-contains (λ u. v ≢ u) then (λ u k e. apart_from_put p.more u v (parts_of u (ByRecursion-at (IsUnput b.recording ts) then u (among_tags ts b c q) k)).1 h (sym e))) in
+    let apart = ByRecursion-contains (λ v. NoneOf v then) put (λ v h. ByRecursion-contains (λ u. v ≢ u) then (λ u k e. apart_from_put p.more u v (parts_of u (ByRecursion-at (IsUnput b.recording ts) then u (among_tags ts b c q) k)).1 h (sym e))) in
     record {
       began = q.began ∙ p.began;
       room = q.room ∙ p.room;

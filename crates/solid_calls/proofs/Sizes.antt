@@ -1,6 +1,6 @@
 -- How much a store holds at most: as many entities as its blocks have tags. So counts of them, and the numbers of
 -- shells, fit their types.
-use Rattle.std.proofs.Common.{◌≡◌, ◌≢◌, ℕ, ◌<◌, ◌≤◌, Bool, true, false, List, [], ◌∷◌, ◌++◌, length, Option, Some, None, refl, sym, ap, subst, arith}
+use Rattle.std.proofs.Common.{◌≡◌, ◌≢◌, ℕ, ◌<◌, ◌≤◌, Bool, true, false, List, [], ◌∷◌, ◌++◌, length, Option, Some, None, refl, sym, subst, arith}
 use Rattle.std.specs.Prelude.{ℤ, pos, negsuc, ◌+ℤ◌, ◌-ℤ◌, ◌*ℤ◌, ◌≤ℤ◌, ◌&&◌, is_some, option_map, Contains}
 use Rattle.std.specs.List.{AllByRecursion}
 use Rattle.std.specs.FinMap.{get, keys, entries}
@@ -16,18 +16,19 @@ use Rattle.pk_base.specs.declared.entity.Class.TheVariants as class
 use Rattle.pk_model.specs.Apart.{NoRepeats}
 use Rattle.pk_model.specs.Maps.{EntityMap}
 use Rattle.pk_model.specs.Tags.{Ascends, AreInRange, TagsAscend, tags_of}
-use Rattle.pk_model.proofs.TagLists.{ByRecursion-at, ByRecursion-contains, ByRecursion-weaker, length-tags_of, owns-Contains}
+use Rattle.pk_model.proofs.TagLists.{length-tags_of, owns-Contains}
 use Rattle.entity_store.specs.Store.{Stored, IsHosted}
 use Rattle.entity_store.proofs.FewBlocks.{few_blocks}
-use Rattle.entity_store.proofs.NetChanges.{TagsAscend-keys, keys_contain}
 use Rattle.solid_model.specs.Items.{Item, Shape, item_at, class_of_item}
 use Rattle.solid_model.specs.Items.Item.{Shell}
 use Rattle.solid_model.specs.Owners.{body_of, number_in_body, same_class}
 use Rattle.solid_model.specs.Rings.{neighbours}
 use Rattle.solid_model.specs.Shapes.{item_of, shape_of}
 use Rattle.solid_model.specs.Sound.{IsSound}
-use Rattle.solid_sound.proofs.Lists.{head_or, neighbour_of, parts}
-use Rattle.solid_sound.proofs.RowKeeps.{well-shape}
+use Rattle.solid_sound.proofs.lists.Neighbours.{head_or, neighbour_of, parts, below}
+use Rattle.solid_sound.proofs.rows.RowKeeps.{well-shape}
+use Rattle.list_facts.proofs.Each.{ByRecursion-weaker, ByRecursion-contains, ByRecursion-at, ByRecursion-left}
+use Rattle.pk_model.proofs.Keys.{keys_contain, TagsAscend-keys}
 use Rattle.solid_calls.specs.Attributes.{attributes_on, is_attribute_on}
 use Rattle.solid_calls.specs.LinkedRings.{AreLinked, FinFields, IsRing, as_fin}
 use Rattle.solid_calls.proofs.Room.{no_more-different}
@@ -41,7 +42,12 @@ some_where (Some x) h = (x, refl)
 pub apart-ascending : (ts : List Tag) → TagsAscend ts → NoRepeats ts
 apart-ascending [] h = tt
 apart-ascending (t ∷ ts) h =
-    (ByRecursion-weaker (λ u. t.0 < u.0) (λ u. t ≢ u) (λ u l e. let same : t.0 ≡ u.0 = ap (λ (v : Tag). v.0) e in omega (arith, l)) ts h.0, apart-ascending ts h.1)
+    (ByRecursion-weaker (λ u. t.0 < u.0) (λ u. t ≢ u) (λ u l. below t u l) ts h.0, apart-ascending ts h.1)
+
+-- the first of tags that ascend ascend
+pub ascend-left : (ts us : List Tag) → TagsAscend (ts ++ us) → TagsAscend ts
+ascend-left [] us h = tt
+ascend-left (t ∷ ts) us h = (ByRecursion-left (λ u. t.0 < u.0) ts us h.0, ascend-left ts us h.1)
 
 -- different tags that are all live are no more than the blocks have
 pub few-live : (s : Stored) → Ascends s.blocks → AreInRange s.blocks → ((t : Tag) (e : Entity) → get s.map t ≡ Some e → IsHosted s.blocks t e) → (ts : List Tag) → NoRepeats ts

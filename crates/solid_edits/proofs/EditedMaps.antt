@@ -1,5 +1,5 @@
 -- What a map of entities has, once entities were put, fins were linked anew, or named another loop.
-use Rattle.std.proofs.Common.{◌≡◌, ◌≢◌, ◌⊎◌, inl, inr, ⊎_elim, ◌≤◌, List, [], ◌∷◌, length, Option, Some, None, refl, ap, subst, ◌∙◌, arith}
+use Rattle.std.proofs.Common.{◌≡◌, ◌⊎◌, inl, inr, ⊎_elim, List, [], ◌∷◌, Option, Some, None, refl, ap, subst, ◌∙◌}
 use Rattle.std.specs.Prelude.{option_map, Contains}
 use Rattle.std.specs.Option.{option_and_then}
 use Rattle.std.specs.FinMap.{get}
@@ -12,11 +12,11 @@ use Rattle.solid_model.specs.Items.{Item, Shape}
 use Rattle.solid_model.specs.Items.Item.{Body, Shell, Face, Loop, Fin, Edge, Vertex, Attr}
 use Rattle.solid_model.specs.Rings.{first_tag, from_least, last_of}
 use Rattle.solid_calls.specs.LinkedRings.{IsRing, Relabels, as_fin, ends_of, in_loop, loop_named, next_at, prev_at, ring_at, unlinked}
-use Rattle.solid_sound.proofs.Lists.{contains_first, contains_later, contains_cases, not_in_nil}
-use Rattle.solid_sound.proofs.Found.{same_or_other}
-use Rattle.solid_sound.proofs.Cycles.{last_of-in}
+use Rattle.solid_sound.proofs.lists.Cycles.{last_of-in}
 use Rattle.solid_calls.proofs.LinkedRings.{ring-kept, ring-links}
 use Rattle.solid_calls.proofs.Represented.{Shows}
+use Rattle.list_facts.proofs.Elements.{not_in_nil, Contains-first, Contains-cases}
+use Rattle.solid_sound.proofs.lists.Neighbours.{among_or_not}
 
 -- the map with a loop of the ring of f
 abbrev pub with_loop : EntityMap → Tag → Tag → Tag → EntityMap
@@ -24,30 +24,16 @@ with_loop m l face f = with_entity m l (Some (entity.Loop face (first_tag (from_
 
 -- ---- among tags
 
-pub among_or_not : (t : Tag) (ts : List Tag) → Contains ts t ⊎ (¬ (Contains ts t))
-among_or_not t [] = inr (λ k. not_in_nil t k)
-among_or_not t (u ∷ us) = ⊎_elim {C = Contains (u ∷ us) t ⊎ (¬ (Contains (u ∷ us) t))}
-    (λ (e : u ≡ t). inl (subst (Contains (u ∷ us)) e (contains_first u us)))
-    (λ (n : u ≢ t). ⊎_elim {C = Contains (u ∷ us) t ⊎ (¬ (Contains (u ∷ us) t))}
-    (λ (k : Contains us t). inl (contains_later u us t k))
-    (λ (k : ¬ (Contains us t)). inr (λ c. ⊎_elim n k (contains_cases u us t c)))
-    (among_or_not t us))
-    (same_or_other u t)
-
 -- the ends of a run are among it
 pub ends-among : (ts : List Tag) (t : Tag) → Contains (ends_of ts) t → Contains ts t
 ends-among [] t k = k
 ends-among (f ∷ fins) t k = ⊎_elim {C = Contains (f ∷ fins) t}
-    (λ (e : f ≡ t). subst (Contains (f ∷ fins)) e (contains_first f fins))
+    (λ (e : f ≡ t). subst (Contains (f ∷ fins)) e (Contains-first f fins))
     (λ (r : Contains (last_of f fins ∷ []) t). ⊎_elim {C = Contains (f ∷ fins) t}
     (λ (e : last_of f fins ≡ t). subst (Contains (f ∷ fins)) e (last_of-in f fins))
     (λ (n : Contains [] t). absurd (not_in_nil t n))
-    (contains_cases (last_of f fins) [] t r))
-    (contains_cases f (last_of f fins ∷ []) t k)
-
-pub length-ends : (ts : List Tag) → length (ends_of ts) ≤ 2
-length-ends [] = omega arith
-length-ends (t ∷ ts) = omega arith
+    (Contains-cases (last_of f fins) [] t r))
+    (Contains-cases f (last_of f fins ∷ []) t k)
 
 -- ---- the fields of a fin
 

@@ -1,5 +1,5 @@
 -- Rows that do not refuse, and the map of what they reach.
-use Rattle.std.proofs.Common.{◌≡◌, Option, None, Some, Result, Ok, Err, refl, ap, ◌∙◌, sym, subst, List, length, ◌≤◌}
+use Rattle.std.proofs.Common.{◌≡◌, Bool, true, false, Option, None, Some, Result, Ok, Err, refl, ap, ◌∙◌, sym, subst, List, length, ◌≤◌}
 use Rattle.std.specs.Prelude.{IsOk}
 use Rattle.pk_base.specs.declared.tag.Tag.{Tag}
 use Rattle.pk_base.specs.declared.refusal.Refusal.{Refusal}
@@ -8,10 +8,10 @@ use Rattle.pk_model.specs.Step.{◌>>=◌}
 use Rattle.entity_store.specs.Store.{StoreView}
 use Rattle.entity_store.specs.Recorder.{Records}
 use Rattle.solid_calls.proofs.Kept.{done-sound}
-use Rattle.solid_sound.proofs.RowKeeps.{Keeps}
+use Rattle.solid_sound.proofs.rows.RowKeeps.{Keeps}
 use Rattle.solid_model.specs.Euler.{cost_of}
 use Rattle.solid_model.specs.Sound.{IsSound}
-use Rattle.solid_model.specs.Rows.{Row, ◌>>◌}
+use Rattle.solid_model.specs.Rows.{Row, refuse_where, ◌>>◌}
 use Rattle.solid_model.specs.Links.{links}
 use Rattle.solid_model.specs.Shapes.{shape_of}
 use Rattle.solid_model.specs.Room.{puts_of}
@@ -37,6 +37,12 @@ pub record GoesPast (o : Option Refusal) (row : Row) : Type 0 where
 pub goes-past : (o : Option Refusal) (row : Row) → IsOk (o >> row) → GoesPast o row
 goes-past None row h = record { is = refl; goes = h; same = refl }
 goes-past (Some e) row h = absurd (cc)
+
+-- a row that goes on after two tests
+pub not_refused_twice : (a b : Bool) (d e : Refusal) (row : Row) → IsOk (refuse_where a d >> (refuse_where b e >> row)) → (a ≡ false) × (b ≡ false) × (refuse_where a d >> (refuse_where b e >> row) ≡ row)
+not_refused_twice true b d e row h = absurd (cc)
+not_refused_twice false true d e row h = absurd (cc)
+not_refused_twice false false d e row h = (refl, refl, refl)
 
 -- the map is that of the shape that the row reaches, and so is sound
 pub done : (old new : StoreView) (c : Call) (tags : List Tag) (row : Row) → row_on old.state.map c ≡ row → IsSound old.state.map → cost_of row ≤ length tags → Keeps tags (row_on old.state.map c)

@@ -1,8 +1,8 @@
 -- Maps in which entities have died with their attributes.
-use Rattle.std.proofs.Common.{◌≡◌, ◌≢◌, ◌⊎◌, inl, inr, ⊎_elim, Bool, true, false, cond, List, [], ◌∷◌, ◌++◌, Option, Some, None, refl, sym, ap, subst, ◌∙◌}
+use Rattle.std.proofs.Common.{◌≡◌, ◌≢◌, ⊎_elim, Bool, true, false, cond, List, [], ◌∷◌, ◌++◌, Option, Some, None, refl, sym, ap, subst, ◌∙◌}
 use Rattle.std.specs.Prelude.{ℤ, Contains, is_some}
 use Rattle.std.specs.Option.{option_and_then, option_map_or}
-use Rattle.std.specs.List.{AllByRecursion, flat_map}
+use Rattle.std.specs.List.{flat_map}
 use Rattle.std.specs.FinMap.{get, keys}
 use Rattle.std.proofs.lemmas.Bool.{cases_Bool, true≢false}
 use Rattle.std.proofs.lemmas.List.Elements.{Contains-append_left, Contains-append_right, Contains-append_cases}
@@ -12,22 +12,18 @@ use Rattle.pk_base.specs.declared.entity.Name.{Name}
 use Rattle.pk_base.specs.declared.entity.Entity.{Entity}
 use Rattle.pk_base.specs.declared.entity.Entity.TheVariants as entity
 use Rattle.pk_model.specs.Maps.{EntityMap, with_entity}
-use Rattle.pk_model.proofs.TagLists.{ByRecursion-append, ByRecursion-at, ByRecursion-contains, ByRecursion-weaker}
-use Rattle.entity_store.proofs.Ascending.{Contains-filter, filter_contains}
 use Rattle.entity_store.proofs.FirstValues.{get_other, get_put}
-use Rattle.entity_store.proofs.NetChanges.{Contains-keys}
+use Rattle.pk_model.proofs.Keys.{Contains-keys}
 use Rattle.solid_model.specs.Items.{Item, Shape}
 use Rattle.solid_model.specs.Items.Item.{Body, Shell, Face, Loop, Fin, Edge, Vertex, Attr}
 use Rattle.solid_model.specs.Deaths.{is_attribute_of}
-use Rattle.solid_model.specs.Rings.{first_tag, is_among}
-use Rattle.solid_sound.proofs.Changed.{NoneOf}
-use Rattle.solid_sound.proofs.Lists.{contains_cases, contains_first, contains_later, in-is_among, is_among-in, not_among, not_in_nil, not_same, same_itself, same_means}
-use Rattle.solid_sound.proofs.Found.{same_or_other}
-use Rattle.solid_sound.proofs.KeptMotions.{flat_map-among}
-use Rattle.solid_sound.proofs.Parted.{all-left, all-right}
+use Rattle.solid_model.specs.Rings.{first_tag}
+use Rattle.solid_sound.proofs.lists.Neighbours.{in-is_among, not_same, same_itself, same_means, NoneOf, among_or_none}
 use Rattle.solid_calls.specs.Attributes.{DropsAttributes, attributes_on, is_attribute_on, unless_on}
 use Rattle.solid_calls.specs.LinkedRings.{as_fin}
 use Rattle.solid_calls.proofs.Represented.{Shows}
+use Rattle.list_facts.proofs.Elements.{not_in_nil, Contains-filter, filter_contains, Contains-first, Contains-later, Contains-cases, Contains-flat_map}
+use Rattle.list_facts.proofs.Each.{ByRecursion-append, ByRecursion-weaker, ByRecursion-at, ByRecursion-left, ByRecursion-right}
 use Rattle.solid_edits.specs.Deaths.{Dies, Kills, unless_on_any, with_attributes}
 
 -- ---- the attributes of an owner
@@ -64,15 +60,15 @@ with_attributes-cases m ts t k P own on =
     one_of : (us : List Tag) → Contains (flat_map (attributes_on m) us) t → ((o : Tag) → Contains us o → IsAttributeIn m o t → P) → P
     one_of [] r h = absurd (not_in_nil t r)
     one_of (u ∷ us) r h =
-        ⊎_elim (λ (a : Contains (attributes_on m u) t). h u (contains_first u us) (attribute-in m u t a))
-        (λ (b : Contains (flat_map (attributes_on m) us) t). one_of us b (λ o c. h o (contains_later u us o c)))
+        ⊎_elim (λ (a : Contains (attributes_on m u) t). h u (Contains-first u us) (attribute-in m u t a))
+        (λ (b : Contains (flat_map (attributes_on m) us) t). one_of us b (λ o c. h o (Contains-later u us o c)))
         (Contains-append_cases (attributes_on m u) (flat_map (attributes_on m) us) t r)
 
 pub with_attributes-own : (m : EntityMap) (ts : List Tag) (t : Tag) → Contains ts t → Contains (with_attributes m ts) t
 with_attributes-own m ts t k = Contains-append_left ts (flat_map (attributes_on m) ts) t k
 
 pub with_attributes-on : (m : EntityMap) (ts : List Tag) (o t : Tag) → Contains ts o → IsAttributeIn m o t → Contains (with_attributes m ts) t
-with_attributes-on m ts o t k is = Contains-append_right ts (flat_map (attributes_on m) ts) t (flat_map-among (attributes_on m) ts o t k (in-attributes m o t is))
+with_attributes-on m ts o t k is = Contains-append_right ts (flat_map (attributes_on m) ts) t (Contains-flat_map (attributes_on m) ts o t k (in-attributes m o t is))
 
 -- no attribute has come
 abbrev pub GainsNoAttribute : EntityMap → EntityMap → Type 0
@@ -89,7 +85,7 @@ pub death-among : (m n : EntityMap) (ts : List Tag) (k : Tag) → GainsNoAttribu
 death-among m n ts k were among t h = ⊎_elim {C = Contains (with_attributes m ts) t}
     (λ (e : k ≡ t). with_attributes-own m ts t (subst (Contains ts) e among))
     (λ (r : Contains (attributes_on n k) t). with_attributes-on m ts k t among (were k t (attribute-in n k t r)))
-    (contains_cases k (attributes_on n k) t h)
+    (Contains-cases k (attributes_on n k) t h)
 
 -- ---- what stays
 
@@ -105,7 +101,7 @@ pub unless-plain : (ts : List Tag) (e : Entity) → IsPlain e → unless_on_any 
 unless-plain [] e h = refl
 unless-plain (t ∷ ts) e h = ap (λ b. unless_on_any ts (cond b None (Some e))) (h t) ∙ unless-plain ts e h
 
-pub unless-other : (ts : List Tag) (o : Tag) (name : Name) (value : ℤ) → AllByRecursion (λ u. o ≢ u) ts → unless_on_any ts (Some (entity.Attr o name value)) ≡ Some (entity.Attr o name value)
+pub unless-other : (ts : List Tag) (o : Tag) (name : Name) (value : ℤ) → NoneOf o ts → unless_on_any ts (Some (entity.Attr o name value)) ≡ Some (entity.Attr o name value)
 unless-other [] o name value h = refl
 unless-other (t ∷ ts) o name value h =
     ap (λ b. unless_on_any ts (cond b None (Some (entity.Attr o name value)))) (not_same o t h.0) ∙ unless-other ts o name value h.1
@@ -115,7 +111,7 @@ unless-owned [] o name value k = absurd (not_in_nil o k)
 unless-owned (t ∷ ts) o name value k =
     ⊎_elim (λ (same : same_tag o t ≡ true). ap (λ b. unless_on_any ts (cond b None (Some (entity.Attr o name value)))) same ∙ unless-none ts)
     (λ (other : same_tag o t ≡ false). ap (λ b. unless_on_any ts (cond b None (Some (entity.Attr o name value)))) other
-    ∙ unless-owned ts o name value (⊎_elim (λ (e : t ≡ o). absurd (true≢false (sym (ap (same_tag o) e ∙ same_itself o) ∙ other))) (λ (r : Contains ts o). r) (contains_cases t ts o k)))
+    ∙ unless-owned ts o name value (⊎_elim (λ (e : t ≡ o). absurd (true≢false (sym (ap (same_tag o) e ∙ same_itself o) ∙ other))) (λ (r : Contains ts o). r) (Contains-cases t ts o k)))
     (cases_Bool (same_tag o t))
 
 -- what is no attribute of these stays
@@ -161,27 +157,11 @@ unless-fin (t ∷ ts) e = unless-fin ts (unless_on t e) ∙ one e
 
 -- ---- maps
 
--- a tag is among these, or is none of them
-pub among_or_none : (t : Tag) (ts : List Tag) → Contains ts t ⊎ AllByRecursion (λ u. t ≢ u) ts
-among_or_none t [] = inr tt
-among_or_none t (u ∷ us) = ⊎_elim {C = Contains (u ∷ us) t ⊎ AllByRecursion (λ v. t ≢ v) (u ∷ us)}
-    (λ (e : t ≡ u). inl (subst (Contains (u ∷ us)) (sym e) (contains_first u us)))
-    (λ (n : t ≢ u). ⊎_elim {C = Contains (u ∷ us) t ⊎ AllByRecursion (λ v. t ≢ v) (u ∷ us)}
-    (λ (k : Contains us t). inl (contains_later u us t k)) (λ (r : AllByRecursion (λ v. t ≢ v) us). inr (n, r)) (among_or_none t us))
-    (same_or_other t u)
-
--- a tag is none of these where it is not among them
-pub none-is : (t : Tag) (ts : List Tag) → is_among t ts ≡ false → NoneOf t ts
-none-is t ts h = ByRecursion-contains (λ u. t ≢ u) ts (λ u k e. true≢false (sym (is_among-in t ts (subst (Contains ts) (sym e) k)) ∙ h))
-
-pub is-none : (t : Tag) (ts : List Tag) → NoneOf t ts → is_among t ts ≡ false
-is-none t ts h = not_among t ts (λ k. ByRecursion-at (λ u. t ≢ u) ts t h k refl)
-
 -- what is left was there
 pub kills-was : (m n : EntityMap) (ts : List Tag) → Kills m ts n → (t : Tag) (x : Entity) → get n t ≡ Some x → get m t ≡ Some x
 kills-was m n ts h t x is = ⊎_elim
     (λ (k : Contains ts t). let both : None ≡ Some x = sym (ByRecursion-at (λ u. get n u ≡ None) ts t h.dead k) ∙ is in absurd (cc))
-    (λ (r : AllByRecursion (λ u. t ≢ u) ts). unless-was ts (get m t) x (sym (h.others t r) ∙ is))
+    (λ (r : NoneOf t ts). unless-was ts (get m t) x (sym (h.others t r) ∙ is))
     (among_or_none t ts)
 
 pub kills-attribute : (m n : EntityMap) (ts : List Tag) → Kills m ts n → GainsNoAttribute m n
@@ -190,7 +170,7 @@ kills-attribute m n ts h o t (name, value, is) = (name, value, kills-was m n ts 
 -- what died stays dead
 pub kills-none : (m n : EntityMap) (ts : List Tag) → Kills m ts n → (t : Tag) → get m t ≡ None → get n t ≡ None
 kills-none m n ts h t is = ⊎_elim (λ (k : Contains ts t). ByRecursion-at (λ u. get n u ≡ None) ts t h.dead k)
-    (λ (r : AllByRecursion (λ u. t ≢ u) ts). h.others t r ∙ ap (unless_on_any ts) is ∙ unless-none ts)
+    (λ (r : NoneOf t ts). h.others t r ∙ ap (unless_on_any ts) is ∙ unless-none ts)
     (among_or_none t ts)
 
 unless-append : (ts us : List Tag) (e : Option Entity) → unless_on_any (ts ++ us) e ≡ unless_on_any us (unless_on_any ts e)
@@ -200,7 +180,7 @@ unless-append (t ∷ ts) us e = unless-append ts us (unless_on t e)
 pub kills-then : (a b c : EntityMap) (ts us : List Tag) → Kills a ts b → Kills b us c → Kills a (ts ++ us) c
 kills-then a b c ts us h k = record {
   dead = ByRecursion-append (λ t. get c t ≡ None) ts us (ByRecursion-weaker (λ t. get b t ≡ None) (λ t. get c t ≡ None) (λ t is. kills-none b c us k t is) ts h.dead) k.dead;
-  others = λ t none. k.others t (all-right (λ u. t ≢ u) ts us none) ∙ ap (unless_on_any us) (h.others t (all-left (λ u. t ≢ u) ts us none)) ∙ sym (unless-append ts us (get a t));
+  others = λ t none. k.others t (ByRecursion-right (λ u. t ≢ u) ts us none) ∙ ap (unless_on_any us) (h.others t (ByRecursion-left (λ u. t ≢ u) ts us none)) ∙ sym (unless-append ts us (get a t));
 }
 
 -- ---- one death, and then the others
@@ -214,12 +194,6 @@ dies-put a b c t drops dies = record {
 
 pub kills-one : (m n : EntityMap) (t : Tag) → Dies m t n → Kills m (t ∷ []) n
 kills-one m n t h = record { dead = (h.gone, tt); others = λ u none. h.others u none.0 }
-
-pub kills-more : (a b c : EntityMap) (t : Tag) (ts : List Tag) → Dies a t b → Kills b ts c → Kills a (t ∷ ts) c
-kills-more a b c t ts h k = kills-then a b c (t ∷ []) ts (kills-one a b t h) k
-
-pub dies-attribute : (m n : EntityMap) (t : Tag) → Dies m t n → GainsNoAttribute m n
-dies-attribute m n t h = kills-attribute m n (t ∷ []) (kills-one m n t h)
 
 -- ---- what the dead were, and who lives on
 

@@ -3,7 +3,6 @@ pub mod Going
 pub mod StaysRepresented
 pub mod Hosted
 pub mod RelinkedFins
-pub mod ReachedRows
 pub mod EditedMaps
 pub mod PlacedFins
 pub mod Puts

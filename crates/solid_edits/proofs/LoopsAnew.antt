@@ -4,8 +4,8 @@ use Rattle.std.specs.Prelude.{is_some}
 use Rattle.pk_base.specs.declared.tag.Tag.{Tag}
 use Rattle.pk_base.specs.declared.entity.Entity.TheVariants as entity
 use Rattle.solid_model.specs.Rings.{first_tag, from_least, least_of, written_from}
-use Rattle.solid_sound.proofs.Cycles.{least, written-first}
-use Rattle.solid_sound.proofs.FinRings.{lone_for}
+use Rattle.solid_sound.proofs.lists.Cycles.{least, written-first}
+use Rattle.solid_sound.proofs.shapes.FinRings.{lone_for}
 use Rattle.solid_edits.specs.EditedLoops.{loop_from}
 
 pub loop_from-is : (face : Tag) (fins : List Tag) (vertex : Tag) → loop_from face (first_tag (from_least fins)) vertex ≡ entity.Loop face (first_tag (from_least fins)) (lone_for fins vertex)

@@ -8,7 +8,7 @@ use Rattle.pk_base.specs.Blocks.{tag}
 use Rattle.pk_base.specs.declared.tag.Tag.{Tag}
 use Rattle.pk_model.specs.Maps.{EntityMap}
 use Rattle.pk_model.specs.Tags.{owns}
-use Rattle.pk_model.proofs.TagLists.{ByRecursion-at}
+use Rattle.list_facts.proofs.Each.{ByRecursion-at}
 use Rattle.entity_store.specs.Store.{StoreView}
 use Rattle.solid_calls.specs.Attributes.{attributes_on}
 use Rattle.solid_calls.specs.Room.{HasRoomForThese, PutsAmong}

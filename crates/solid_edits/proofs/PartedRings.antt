@@ -9,13 +9,14 @@ use Rattle.pk_base.specs.declared.tag.Tag.{Tag}
 use Rattle.pk_base.specs.declared.entity.Entity.{Entity}
 use Rattle.pk_model.specs.Apart.{NoRepeats}
 use Rattle.pk_model.specs.Maps.{EntityMap}
-use Rattle.pk_model.proofs.TagLists.{ByRecursion-at}
+use Rattle.list_facts.proofs.Each.{ByRecursion-at}
 use Rattle.solid_model.specs.Rings.{before, first_tag, from, next_in}
-use Rattle.solid_sound.proofs.Lists.{before-from, contains_cases, contains_first, contains_later, head_or, not_in_nil, not_same, same_itself}
-use Rattle.solid_sound.proofs.Cycles.{CutAt, cut-at}
-use Rattle.solid_sound.proofs.Progress.{in_drop}
-use Rattle.solid_sound.proofs.Reading.{next_in-parts, not_before}
+use Rattle.solid_sound.proofs.lists.Neighbours.{before-from, head_or, not_same, same_itself}
+use Rattle.solid_sound.proofs.lists.Cycles.{CutAt, cut-at}
+use Rattle.solid_sound.proofs.rows.Progress.{in_drop}
+use Rattle.solid_sound.proofs.shapes.Reading.{next_in-parts, not_before}
 use Rattle.solid_calls.specs.LinkedRings.{FinFields, IsInRing, IsRing, as_fin, ends_of, next_at, ring_at, ring_of_any}
+use Rattle.list_facts.proofs.Elements.{not_in_nil, Contains-first, Contains-later, Contains-cases}
 use Rattle.solid_edits.specs.EditedLoops.{fins_behind, fins_between, other_than}
 use Rattle.solid_calls.proofs.LinkedRings.{in-ring_from, in-ring_starts, ring-links, ring_at-is}
 use Rattle.solid_edits.proofs.EditedMaps.{ends-among}
@@ -50,8 +51,8 @@ cut-within f mate ring has_f has_mate t k = ⊎_elim
     (λ (a : Contains (ends_of (drop 1 (before mate ring))) t). before-within mate ring t (in_drop 1 (before mate ring) t (ends-among (drop 1 (before mate ring)) t a)))
     (λ (b : Contains (ends_of (drop 1 (from mate ring))) t). from-within mate ring t (in_drop 1 (from mate ring) t (ends-among (drop 1 (from mate ring)) t b)))
     (Contains-append_cases (ends_of (drop 1 (before mate ring))) (ends_of (drop 1 (from mate ring))) t q))
-    (contains_cases mate (ends_of (drop 1 (before mate ring)) ++ ends_of (drop 1 (from mate ring))) t r))
-    (contains_cases f (mate ∷ ends_of (drop 1 (before mate ring)) ++ ends_of (drop 1 (from mate ring))) t k)
+    (Contains-cases mate (ends_of (drop 1 (before mate ring)) ++ ends_of (drop 1 (from mate ring))) t r))
+    (Contains-cases f (mate ∷ ends_of (drop 1 (before mate ring)) ++ ends_of (drop 1 (from mate ring))) t k)
 
 -- ---- the fins beside the edge's
 
@@ -64,7 +65,7 @@ other-apart t u h = ap (λ b. cond b None (Some t)) (not_same t u h)
 -- the first of these, unless what is behind them comes first
 other-first : (d t : Tag) (ts us : List Tag) → ¬ (Contains ts t) → other_than (head_or d (ts ++ t ∷ us)) t ≡ first_tag ts
 other-first d t [] us h = other-itself t
-other-first d t (x ∷ ts) us h = other-apart x t (λ e. h (subst (Contains (x ∷ ts)) e (contains_first x ts)))
+other-first d t (x ∷ ts) us h = other-apart x t (λ e. h (subst (Contains (x ∷ ts)) e (Contains-first x ts)))
 
 module _ (m : EntityMap) (f mate : Tag) (in_ring : IsInRing m f) (among : Contains (ring_at m f) mate) (other : mate ≢ f) where
   abbrev rest : List Tag
@@ -98,7 +99,7 @@ module _ (m : EntityMap) (f mate : Tag) (in_ring : IsInRing m f) (among : Contai
       let B = fins_behind m f mate in
       let all = f ∷ A ++ mate ∷ B in
       let next : n ≡ head_or f (A ++ mate ∷ B) =
-      same_Some n (next_in all f) (sym is ∙ (ring-links m all f whole (contains_first f (A ++ mate ∷ B))).0)
+      same_Some n (next_in all f) (sym is ∙ (ring-links m all f whole (Contains-first f (A ++ mate ∷ B))).0)
       ∙ next_in-parts f [] (A ++ mate ∷ B) (λ k. not_in_nil f k) ∙ ap (head_or f) (append-nil (A ++ mate ∷ B)) in
       ap (λ t. other_than t mate) next ∙ other-first f mate A B (not_before mate A B parts-once.1)
 
@@ -108,9 +109,9 @@ module _ (m : EntityMap) (f mate : Tag) (in_ring : IsInRing m f) (among : Contai
       let B = fins_behind m f mate in
       let all = f ∷ A ++ mate ∷ B in
       let next : n ≡ head_or mate (B ++ f ∷ A) =
-      same_Some n (next_in all mate) (sym is ∙ (ring-links m all mate whole (Contains-append_right (f ∷ A) (mate ∷ B) mate (contains_first mate B))).0)
+      same_Some n (next_in all mate) (sym is ∙ (ring-links m all mate whole (Contains-append_right (f ∷ A) (mate ∷ B) mate (Contains-first mate B))).0)
       ∙ next_in-parts mate (f ∷ A) B (not_before mate (f ∷ A) B parts-once) in
-      ap (λ t. other_than t f) next ∙ other-first mate f B A (λ k. ByRecursion-at (λ u. f ≢ u) (A ++ mate ∷ B) f parts-once.0 (Contains-append_right A (mate ∷ B) f (contains_later mate B f k)) refl)
+      ap (λ t. other_than t f) next ∙ other-first mate f B A (λ k. ByRecursion-at (λ u. f ≢ u) (A ++ mate ∷ B) f parts-once.0 (Contains-append_right A (mate ∷ B) f (Contains-later mate B f k)) refl)
 
   pub mate-next : IsSome (next_at m mate)
   mate-next = ap is_some (ring-links m (ring_at m f) mate in_ring.ring among).0

@@ -2,7 +2,6 @@
 use Rattle.std.proofs.Common.{◌≡◌, ◌≢◌, ⊎_elim, List, Option, Some, None, refl, sym, ap, ◌∙◌}
 use Rattle.std.specs.Prelude.{Contains, option_map}
 use Rattle.std.specs.Option.{option_and_then}
-use Rattle.std.specs.List.{AllByRecursion}
 use Rattle.std.specs.FinMap.{get}
 use Rattle.std.proofs.lemmas.Option.{same_Some}
 use Rattle.pk_base.specs.Blocks.{tag}
@@ -10,10 +9,10 @@ use Rattle.pk_base.specs.declared.tag.Tag.{Tag}
 use Rattle.pk_base.specs.declared.entity.Entity.{Entity}
 use Rattle.pk_base.specs.declared.entity.Entity.TheVariants as entity
 use Rattle.pk_model.specs.Maps.{EntityMap}
-use Rattle.pk_model.proofs.TagLists.{ByRecursion-at}
+use Rattle.list_facts.proofs.Each.{ByRecursion-at}
 use Rattle.solid_calls.specs.LinkedRings.{FinFields, IsRing, Relabels, Relinks, as_fin, in_loop, loop_named, next_at, prev_at, unlinked}
 use Rattle.solid_calls.proofs.LinkedRings.{ring-links}
-use Rattle.solid_edits.proofs.KilledMaps.{among_or_none}
+use Rattle.solid_sound.proofs.lists.Neighbours.{NoneOf, among_or_none}
 
 -- a fin without its links and its loop, any other entity as it is
 abbrev pub unplaced : Entity → Entity
@@ -80,7 +79,7 @@ relinks-named m n before after h t = sym (named-unlinked (get n t)) ∙ ap named
 pub relabels-elsewhere : (m n : EntityMap) (ring : List Tag) (to : Tag) → Relabels m ring to n → (t : Tag) → IsSameElsewhere m n t
 relabels-elsewhere m n ring to h t = ⊎_elim
     (λ (k : Contains ring t). ap (option_map unplaced) (h.fins t k) ∙ unplaced-in_loop to (get m t))
-    (λ (none : AllByRecursion (λ u. t ≢ u) ring). ap (option_map unplaced) (h.others t (λ k. ByRecursion-at (λ u. t ≢ u) ring t none k refl)))
+    (λ (none : NoneOf t ring). ap (option_map unplaced) (h.others t (λ k. ByRecursion-at (λ u. t ≢ u) ring t none k refl)))
     (among_or_none t ring)
 
 abbrev next_by : Option Entity → Option Tag
@@ -104,7 +103,7 @@ links-in_loop to (Some (entity.Attr owner name value)) = (refl, refl)
 pub relabels-links : (m n : EntityMap) (ring : List Tag) (to : Tag) → Relabels m ring to n → (t : Tag) → (next_at n t ≡ next_at m t) × (prev_at n t ≡ prev_at m t)
 relabels-links m n ring to h t = ⊎_elim {C = (next_at n t ≡ next_at m t) × (prev_at n t ≡ prev_at m t)}
     (λ (k : Contains ring t). let both = links-in_loop to (get m t) in (ap next_by (h.fins t k) ∙ both.0, ap prev_by (h.fins t k) ∙ both.1))
-    (λ (none : AllByRecursion (λ u. t ≢ u) ring).
+    (λ (none : NoneOf t ring).
     let same = h.others t (λ k. ByRecursion-at (λ u. t ≢ u) ring t none k refl) in (ap next_by same, ap prev_by same))
     (among_or_none t ring)
 

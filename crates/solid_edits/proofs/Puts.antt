@@ -1,22 +1,12 @@
--- Stores of which the map has changed: their blocks, and the tags that were put.
-use Rattle.std.proofs.Common.{◌≡◌, List, ◌++◌, sym, subst, ⊎_elim}
-use Rattle.std.specs.Prelude.{Contains, IsTrue}
+-- Tags that are among those which are put.
+use Rattle.std.proofs.Common.{List, ◌++◌, ⊎_elim}
+use Rattle.std.specs.Prelude.{Contains}
 use Rattle.std.specs.List.{AllByRecursion}
 use Rattle.std.proofs.lemmas.List.Elements.{Contains-append_left, Contains-append_right, Contains-append_cases}
 use Rattle.pk_base.specs.declared.tag.Tag.{Tag}
-use Rattle.pk_model.specs.Maps.{EntityMap}
-use Rattle.pk_model.specs.Tags.{owns}
-use Rattle.pk_model.proofs.TagLists.{ByRecursion-at}
-use Rattle.entity_store.specs.Store.{Stored}
+use Rattle.list_facts.proofs.Each.{ByRecursion-at}
 use Rattle.solid_calls.specs.LinkedRings.{ends_of}
 use Rattle.solid_edits.proofs.EditedMaps.{ends-among}
-
-pub stored-is : (a b : Stored) (m : EntityMap) → a.blocks ≡ b.blocks → a.map ≡ m → a ≡ record b { map = m }
-stored-is a b m h k = λ i. record { blocks = h i; map = k i }
-
--- a tag is owned still, where the blocks are the same
-pub owned-still : (a b : Stored) (t : Tag) → a.blocks ≡ b.blocks → IsTrue (owns b.blocks t) → IsTrue (owns a.blocks t)
-owned-still a b t h k = subst (λ bs. IsTrue (owns bs t)) (sym h) k
 
 -- each of these is among those
 pub each-among : (us ts : List Tag) → AllByRecursion (Contains ts) us → (t : Tag) → Contains us t → Contains ts t

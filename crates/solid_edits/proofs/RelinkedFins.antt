@@ -14,7 +14,7 @@ use Rattle.solid_model.specs.Items.{Item, Shape, item_at, class_of_item}
 use Rattle.solid_model.specs.Items.Item.{Body, Shell, Face, Loop, Fin, Edge, Vertex, Attr}
 use Rattle.solid_model.specs.Owners.{fins_of}
 use Rattle.solid_model.specs.Sound.{class_at}
-use Rattle.solid_calls.specs.LinkedRings.{as_fin, loop_named, next_at, prev_at, unlinked}
+use Rattle.solid_calls.specs.LinkedRings.{as_fin, loop_named, unlinked}
 use Rattle.solid_calls.proofs.Represented.{Shows, shows-kept}
 
 -- the map has at the tag what it had, but for the links of a fin
@@ -76,13 +76,6 @@ attr-unlinked (Some (entity.Attr o n v)) owner name value h = h
 
 pub attr-fields : (m n : EntityMap) (t owner : Tag) (name : Name) (value : ℤ) → SameFields m n t → get n t ≡ Some (entity.Attr owner name value) → get m t ≡ Some (entity.Attr owner name value)
 attr-fields m n t owner name value h is = attr-unlinked (get m t) owner name value (sym h ∙ ap (option_map unlinked) is)
-
--- where the map has the same, so are the links
-pub links-same : (m n : EntityMap) (t : Tag) → get n t ≡ get m t → (next_at n t ≡ next_at m t) × (prev_at n t ≡ prev_at m t)
-links-same m n t h = (ap (λ o. option_map (λ x. x.next) (option_and_then as_fin o)) h, ap (λ o. option_map (λ x. x.prev) (option_and_then as_fin o)) h)
-
-pub loop-same : (m n : EntityMap) (t : Tag) → get n t ≡ get m t → loop_named n t ≡ loop_named m t
-loop-same m n t h = ap loop_of h
 
 -- the loop of a fin
 pub loop_read : (m : EntityMap) (t l next prev mate edge vertex : Tag) → get m t ≡ Some (entity.Fin l next prev mate edge vertex) → loop_named m t ≡ Some l

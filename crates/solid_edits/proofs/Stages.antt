@@ -45,3 +45,14 @@ stage-room_one ts a b t room h k = room-for_one b.recording ts t (room-after ts 
 
 pub stage-owns : (ts : List Tag) (a b : StoreView) (t : Tag) → IsStage ts a b → IsTrue (owns a.state.blocks t) → IsTrue (owns b.state.blocks t)
 stage-owns ts a b t h owned = subst (λ (s : Stored). IsTrue (owns s.blocks t)) (sym h.state) owned
+
+-- ---- states of which only the map has changed
+
+pub only-put : (a b : Stored) (m : EntityMap) → b ≡ record a { map = m } → b ≡ record a { map = b.map }
+only-put a b m h = h ∙ ap (λ n. record a { map = n }) (sym (ap (λ (s : Stored). s.map) h))
+
+pub only-then : (a b c : Stored) → b ≡ record a { map = b.map } → c ≡ record b { map = c.map } → c ≡ record a { map = c.map }
+only-then a b c h k = k ∙ ap (λ bs. record c { blocks = bs }) (ap (λ (s : Stored). s.blocks) h)
+
+pub same-blocks : (a b : Stored) (m : EntityMap) → b ≡ record a { map = m } → b.blocks ≡ a.blocks
+same-blocks a b m h = ap (λ (s : Stored). s.blocks) h

@@ -1,24 +1,22 @@
 -- A map that was changed under a few tags, where no fin changes, and the shape that it represents.
-use Rattle.std.proofs.Common.{◌≡◌, ◌≢◌, ◌⊎◌, inl, inr, ⊎_elim, List, [], ◌∷◌, Option, Some, None, sym, ap, subst, ◌∙◌}
+use Rattle.std.proofs.Common.{◌≡◌, List, Option, Some, None, sym, ap, subst, ◌∙◌}
 use Rattle.std.specs.Prelude.{Contains, option_map}
-use Rattle.std.specs.List.{AllByRecursion}
 use Rattle.std.specs.FinMap.{get}
 use Rattle.std.specs.Option.{option_and_then}
 use Rattle.pk_base.specs.declared.tag.Tag.{Tag}
 use Rattle.pk_base.specs.declared.entity.Entity.TheVariants as entity
 use Rattle.pk_model.specs.Maps.{EntityMap}
-use Rattle.pk_model.proofs.TagLists.{ByRecursion-at, ByRecursion-contains}
 use Rattle.solid_model.specs.Items.{Item, Shape, item_at}
-use Rattle.solid_model.specs.Items.Item.{Body, Shell, Face, Loop, Fin, Edge, Vertex, Attr}
+use Rattle.solid_model.specs.Items.Item.{Loop, Fin}
 use Rattle.solid_model.specs.Rings.{first_tag}
 use Rattle.solid_model.specs.Owners.{fins_of}
-use Rattle.solid_sound.proofs.Lists.{contains_first, contains_later, not_in_nil}
-use Rattle.solid_sound.proofs.Found.{same_or_other}
-use Rattle.solid_sound.proofs.Reading.{fin_in}
-use Rattle.solid_sound.proofs.RowKeeps.{IsWell}
+use Rattle.solid_sound.proofs.shapes.Reading.{fin_in}
+use Rattle.solid_sound.proofs.rows.RowKeeps.{IsWell}
 use Rattle.solid_calls.specs.LinkedRings.{FinFields, as_fin, loop_named}
 use Rattle.solid_calls.proofs.LinkedRings.{ring-kept}
 use Rattle.solid_calls.proofs.Represented.{Shows, Represents, shows-kept}
+use Rattle.list_facts.proofs.Each.{ByRecursion-contains, ByRecursion-at}
+use Rattle.solid_sound.proofs.shapes.Bodies.{loop_by_item}
 
 -- under this tag the map has what the shape has
 pub record IsShown (R : Shape) (n : EntityMap) (t : Tag) : Type 0 where
@@ -46,30 +44,12 @@ KeepsFins S R m n =
     (f mate edge vertex : Tag) → item_at S f ≡ Some (Fin mate edge vertex)
     → (item_at R f ≡ Some (Fin mate edge vertex)) × (get n f ≡ get m f)
 
-pub in_or_out : (t : Tag) (ts : List Tag) → Contains ts t ⊎ AllByRecursion (λ u. t ≢ u) ts
-in_or_out t [] = inr tt
-in_or_out t (u ∷ us) =
-    ⊎_elim {C = Contains (u ∷ us) t ⊎ AllByRecursion (λ v. t ≢ v) (u ∷ us)}
-    (λ (e : t ≡ u). inl (subst (λ v. Contains (u ∷ us) v) (sym e) (contains_first u us)))
-    (λ (other : t ≢ u).
-    ⊎_elim {C = Contains (u ∷ us) t ⊎ AllByRecursion (λ v. t ≢ v) (u ∷ us)}
-    (λ (k : Contains us t). inl (contains_later u us t k))
-    (λ (r : AllByRecursion (λ v. t ≢ v) us). inr (other, r))
-    (in_or_out t us))
-    (same_or_other t u)
-
 module _ (S R : Shape) (m n : EntityMap) (well : IsWell S) (fins : KeepsFins S R m n) where
   fins_stay : (t : Tag) (x : Item) → item_at S t ≡ Some x → (f : Tag) → Contains (fins_of x) f → get n f ≡ get m f
-  fins_stay t (Loop face fs vertex) e f k =
-      let fin = fin_in S well.written well.sound t face fs vertex e f k in
+  fins_stay t x e f k =
+      let w = loop_by_item S f t x e k in
+      let fin = fin_in S well.written well.sound t w.face w.fins w.vertex w.loop_is f w.among in
       (fins f fin.0 fin.1 fin.2 fin.3).1
-  fins_stay t (Body shell) e f k = absurd (not_in_nil f k)
-  fins_stay t (Shell body q) e f k = absurd (not_in_nil f k)
-  fins_stay t (Face shell outer) e f k = absurd (not_in_nil f k)
-  fins_stay t (Fin mate edge vertex) e f k = absurd (not_in_nil f k)
-  fins_stay t (Edge body) e f k = absurd (not_in_nil f k)
-  fins_stay t (Vertex body point) e f k = absurd (not_in_nil f k)
-  fins_stay t (Attr owner name value) e f k = absurd (not_in_nil f k)
 
   -- an item that stays is shown by the entity that stays
   pub shows-stays : (t : Tag) (x : Item) → item_at S t ≡ Some x → Shows S m t x → get n t ≡ get m t → Shows R n t x

@@ -1,5 +1,5 @@
 -- The map of a shape in which items were written and items were killed.
-use Rattle.std.proofs.Common.{◌≡◌, ◌≢◌, ⊎_elim, not, List, [], Option, Some, None, refl, sym, ap, subst, ◌∙◌}
+use Rattle.std.proofs.Common.{◌≡◌, ⊎_elim, not, List, [], Option, Some, None, refl, sym, ap, subst, ◌∙◌}
 use Rattle.std.specs.Prelude.{Contains}
 use Rattle.std.specs.List.{AllByRecursion}
 use Rattle.std.specs.FinMap.{get}
@@ -8,24 +8,24 @@ use Rattle.pk_base.specs.declared.entity.Entity.{Entity}
 use Rattle.pk_base.specs.declared.entity.Entity.TheVariants as entity
 use Rattle.pk_model.specs.Apart.{NoRepeats}
 use Rattle.pk_model.specs.Maps.{EntityMap}
-use Rattle.pk_model.proofs.TagLists.{ByRecursion-at}
+use Rattle.list_facts.proofs.Each.{ByRecursion-at}
 use Rattle.solid_model.specs.Items.{Item, Shape, item_at, class_of_item, ◌with◌}
 use Rattle.solid_model.specs.Items.Item.{Body, Shell, Face, Loop, Fin, Edge, Vertex, Attr}
 use Rattle.solid_model.specs.Rings.{is_among}
 use Rattle.solid_model.specs.Owners.{fins_of}
 use Rattle.solid_model.specs.Deaths.{dies_with, ◌without◌}
-use Rattle.solid_sound.proofs.Lists.{neither_from, not_in_nil}
-use Rattle.solid_sound.proofs.Changed.{NoneOf}
-use Rattle.solid_sound.proofs.Edits.{Edits, edits}
-use Rattle.solid_sound.proofs.Found.{none_or_some}
-use Rattle.solid_sound.proofs.Lookups.{Items, filter-kept, is_written, tags_in, with-other}
-use Rattle.solid_sound.proofs.Names.{NotAttr}
-use Rattle.solid_sound.proofs.Reading.{fin_in}
-use Rattle.solid_sound.proofs.RowKeeps.{IsWell}
+use Rattle.solid_sound.proofs.lists.Neighbours.{neither_from, NoneOf, is-none, among_or_none}
+use Rattle.solid_sound.proofs.shapes.Edits.{Edits, edits}
+use Rattle.solid_sound.proofs.shapes.Found.{none_or_some}
+use Rattle.solid_sound.proofs.shapes.Lookups.{Items, filter-kept, is_written, tags_in, with-other}
+use Rattle.solid_sound.proofs.shapes.Names.{NotAttr}
+use Rattle.solid_sound.proofs.shapes.Reading.{fin_in}
+use Rattle.solid_sound.proofs.rows.RowKeeps.{IsWell}
 use Rattle.solid_calls.specs.LinkedRings.{as_fin}
+use Rattle.list_facts.proofs.Elements.{not_in_nil}
 use Rattle.solid_edits.specs.Deaths.{Kills, unless_on_any}
 use Rattle.solid_calls.proofs.Represented.{Represents, Shows, shows-kept}
-use Rattle.solid_edits.proofs.KilledMaps.{among_or_none, is-none, kills-none, unless-other, unless-owned, unless-plain}
+use Rattle.solid_edits.proofs.KilledMaps.{kills-none, unless-other, unless-owned, unless-plain}
 use Rattle.solid_edits.proofs.PlacedAnew.{IsFinOf, IsSameElsewhere, elsewhere-fin, elsewhere-none, elsewhere-plain}
 
 -- From the map m of the shape S, n has the items xs written, and differs elsewhere only in where fins
@@ -96,7 +96,7 @@ module _ (S : Shape) (m n r : EntityMap) (xs : Items) (killed : List Tag) (well 
   gone_item t (Attr owner name value) is old live none = ⊎_elim
       (λ (k : Contains killed owner).
       kills.others t live ∙ ap (unless_on_any killed) (elsewhere-plain m n t (entity.Attr owner name value) (elsewhere t old) refl (was.items t (Attr owner name value) is)) ∙ unless-owned killed owner name value k)
-      (λ (other : AllByRecursion (λ u. owner ≢ u) killed). stands_on t (Attr owner name value) none
+      (λ (other : NoneOf owner killed). stands_on t (Attr owner name value) none
       (filter-kept (λ x. not (dies_with killed x)) (S with xs) t (Attr owner name value) (with-other S xs t old ∙ is)
       (neither_from (is_among t killed) (is_among owner killed) (is-none t killed live) (is-none owner killed other))))
       (among_or_none owner killed)

@@ -51,7 +51,7 @@ pub fn count_dead<L: Ledger>(store: &Store, tags: &[Tag], steps: &mut Steps<L>) 
     ensures few { result ≤ 16 * 16777153 }
 {
     // The blocks bound how many attributes there are.
-    store.blocks();
+    let _blocks = store.blocks();
     let mut count = tags.len();
     for tag in tags {
         count += count_attributes(store, *tag, steps);

@@ -50,7 +50,7 @@ pub fn add_q<L: Ledger>(rec: &mut Recorder<'_>, shell: Tag, by: i32, steps: &mut
     ensures same_store { rec.new.store.ghost_name ≡ rec.old.store.ghost_name }
 {
     // Its clauses say that the blocks of the shell and of its body are owned.
-    rec.view().blocks();
+    let _blocks = rec.view().blocks();
     let Some(Entity::Shell { body, q }) = rec.get(shell, steps) else {
         unreachable!()
     };

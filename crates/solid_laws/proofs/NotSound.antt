@@ -9,7 +9,7 @@ use Rattle.pk_base.specs.Blocks.{tag}
 use Rattle.pk_base.specs.Entity.{same_tag}
 use Rattle.pk_base.specs.declared.tag.Tag.{Tag}
 use Rattle.pk_model.specs.Maps.{tag_cmp}
-use Rattle.pk_model.proofs.TagLists.{same_from_tie, ByRecursion-at, contains_only}
+use Rattle.pk_model.proofs.TagLists.{same_from_tie}
 use Rattle.solid_model.specs.Items.{Item, Shape, item_at}
 use Rattle.solid_model.specs.Items.Item.{Loop, Fin}
 use Rattle.solid_model.specs.Rings.{neighbours}
@@ -17,8 +17,10 @@ use Rattle.solid_model.specs.Owners.{fins_of}
 use Rattle.solid_model.specs.Links.{links}
 use Rattle.solid_model.specs.Sound.{IsSound, IsSoundShape, ComesAfter}
 use Rattle.solid_model.proofs.Written.{is_read, shape_of-read}
-use Rattle.solid_sound.proofs.OnlyShape.{shape-read}
-use Rattle.solid_sound.proofs.Lists.{same_means, contains_cases, not_in_nil, alone_in_ring}
+use Rattle.solid_sound.proofs.shapes.OnlyShape.{shape-read}
+use Rattle.solid_sound.proofs.lists.Neighbours.{same_means, alone_in_ring}
+use Rattle.list_facts.proofs.Elements.{not_in_nil, Contains-cases, Contains-only}
+use Rattle.list_facts.proofs.Each.{ByRecursion-at}
 use Rattle.solid_laws.specs.Unsound.{mate_not_mutual, edge_at_one_vertex, outer_of_another, one_name_twice, two_cycles}
 
 -- the map of a shape that is read again from it is sound only where the shape is
@@ -69,7 +71,7 @@ each_in_list : {A : Type 0} (p : A → Bool) (xs : List A) → list_all p xs ≡
 each_in_list p [] h x k = absurd (not_in_nil x k)
 each_in_list p (y ∷ xs) h x k =
     let both = and_parts (p y) (list_all p xs) h in
-    ⊎_elim (λ (e : y ≡ x). ap p (sym e) ∙ both.0) (λ (r : Contains xs x). each_in_list p xs both.1 x r) (contains_cases y xs x k)
+    ⊎_elim (λ (e : y ≡ x). ap p (sym e) ∙ both.0) (λ (r : Contains xs x). each_in_list p xs both.1 x r) (Contains-cases y xs x k)
 
 -- after 73 comes 72 alone
 abbrev after_73 : Tag × Tag → Bool
@@ -89,6 +91,6 @@ two_rounds = map_not_sound two_cycles refl (λ s.
     let first : Contains r.fins (tag 72) = (r.are_all (tag 72)).1 (tag 73, tag 71, refl) in
     let second : Contains r.fins (tag 77) = (r.are_all (tag 77)).1 (tag 78, tag 76, refl) in
     let alone : r.fins ≡ tag 72 ∷ [] = alone_in_ring (tag 72) r.fins r.once first (λ g k. comes_after_73 g (ByRecursion-at _ (neighbours r.fins) (tag 72, g) r.round k)) in
-    let n : tag 72 ≡ tag 77 = contains_only (tag 72) (tag 77) (subst (λ ts. Contains ts (tag 77)) alone second) in
+    let n : tag 72 ≡ tag 77 = Contains-only (tag 72) (tag 77) (subst (λ ts. Contains ts (tag 77)) alone second) in
     let k : 72 ≡ 77 = ap (λ (t : Tag). t.0) n in
     absurd (omega arith))

@@ -1,6 +1,6 @@
 -- What stands around an item of a sound shape.
 use Rattle.std.proofs.Common.{◌≡◌, List, Option, Some, None, Ok, drop, refl, sym, ap, ◌∙◌}
-use Rattle.std.specs.Prelude.{ℤ, option_map, unwrap_or}
+use Rattle.std.specs.Prelude.{option_map, unwrap_or}
 use Rattle.std.specs.Option.{option_and_then, option_map_or}
 use Rattle.pk_base.specs.Blocks.{tag}
 use Rattle.pk_base.specs.declared.tag.Tag.{Tag}
@@ -12,34 +12,13 @@ use Rattle.solid_model.specs.Owners.{owner_of_item, owner_in, body_of}
 use Rattle.solid_model.specs.Places as place
 use Rattle.solid_model.specs.Places.{outer_of, outer_at, fins_at, face_at, as_face, loop_at, as_loop, placed_loop}
 use Rattle.solid_model.specs.Sound.{class_at}
-use Rattle.solid_sound.proofs.Bodies.{leads_up}
-use Rattle.solid_sound.proofs.FinRings.{ring_with, ring_owner, ring_fins}
-use Rattle.solid_sound.proofs.RowKeeps.{IsWell}
+use Rattle.solid_sound.proofs.shapes.Bodies.{leads_up}
+use Rattle.solid_sound.proofs.shapes.FinRings.{ring_with, ring_owner, ring_fins}
+use Rattle.solid_sound.proofs.rows.RowKeeps.{IsWell}
+use Rattle.solid_sound.proofs.rows.KeptRings.{shell_of_class, face_of_class}
 use Rattle.solid_places.proofs.Read.{answered}
 
 -- ---- items of a class
-
-pub shell_item : (o : Option Item) → option_map class_of_item o ≡ Some class.Shell → (body : Tag) × (q : ℤ) × (o ≡ Some (Shell body q))
-shell_item None h = absurd (cc)
-shell_item (Some (Shell body q)) h = (body, q, refl)
-shell_item (Some (Body shell)) h = absurd (cc)
-shell_item (Some (Face shell outer)) h = absurd (cc)
-shell_item (Some (Loop face fins vertex)) h = absurd (cc)
-shell_item (Some (Fin mate edge vertex)) h = absurd (cc)
-shell_item (Some (Edge body)) h = absurd (cc)
-shell_item (Some (Vertex body point)) h = absurd (cc)
-shell_item (Some (Attr owner name value)) h = absurd (cc)
-
-pub face_item : (o : Option Item) → option_map class_of_item o ≡ Some class.Face → (shell : Tag) × (outer : Tag) × (o ≡ Some (Face shell outer))
-face_item None h = absurd (cc)
-face_item (Some (Face shell outer)) h = (shell, outer, refl)
-face_item (Some (Body shell)) h = absurd (cc)
-face_item (Some (Shell body q)) h = absurd (cc)
-face_item (Some (Loop face fins vertex)) h = absurd (cc)
-face_item (Some (Fin mate edge vertex)) h = absurd (cc)
-face_item (Some (Edge body)) h = absurd (cc)
-face_item (Some (Vertex body point)) h = absurd (cc)
-face_item (Some (Attr owner name value)) h = absurd (cc)
 
 pub loop_item : (o : Option Item) → option_map class_of_item o ≡ Some class.Loop → (face : Tag) × (fins : List Tag) × (vertex : Option Tag) × (o ≡ Some (Loop face fins vertex))
 loop_item None h = absurd (cc)
@@ -70,7 +49,7 @@ module _ (S : Shape) (well : IsWell S) where
   face_body : (f shell outer : Tag) → item_at S f ≡ Some (Face shell outer) → owner_in S shell ≡ body_of S f
   face_body f shell outer h =
       let up = leads_up S well.written well.sound in
-      let s = shell_item (item_at S shell) (well.sound.names.kinds f (Face shell outer) h).0.0 in
+      let s = shell_of_class (item_at S shell) (well.sound.names.kinds f (Face shell outer) h).0.0 in
       owner-is S shell s.0 (Shell s.0 s.1) s.2 refl
       ∙ sym (up.bodies s.0 shell (well.sound.names.bodies shell s.0 s.1 s.2))
       ∙ up.shells shell s.0 s.1 s.2
@@ -82,7 +61,7 @@ module _ (S : Shape) (well : IsWell S) where
 
   pub face-place : (f : Tag) → class_at S f ≡ Some class.Face → face_at S f ≡ Ok (face_place f)
   face-place f h =
-      let x = face_item (item_at S f) h in
+      let x = face_of_class (item_at S f) h in
       answered (as_face S) S f (Face x.0 x.1) _ x.2 refl
       ∙ (λ i. Ok (record {
         shell = sym (owner-is S f x.0 (Face x.0 x.1) x.2 refl) i;

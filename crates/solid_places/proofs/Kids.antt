@@ -21,9 +21,10 @@ use Rattle.solid_model.specs.Owners.{owner_of_item, number_of_class, same_class,
 use Rattle.solid_model.specs.Links.{entity_of}
 use Rattle.solid_model.specs.Shapes.{item_of, shape_of}
 use Rattle.solid_model.specs.Sound.{IsSound}
-use Rattle.solid_sound.proofs.Bodies.{loop_with-some}
-use Rattle.solid_sound.proofs.Reading.{each-found}
-use Rattle.solid_sound.proofs.RowKeeps.{IsWell, well-shape}
+use Rattle.solid_sound.proofs.shapes.Bodies.{loop_with-some}
+use Rattle.solid_sound.proofs.shapes.Reading.{each-found}
+use Rattle.solid_sound.proofs.rows.RowKeeps.{IsWell, well-shape}
+use Rattle.list_facts.proofs.Lengths.{length-filter_map}
 use Rattle.solid_places.proofs.Read.{entity-of}
 
 -- ---- one of them
@@ -53,7 +54,7 @@ owner-kept S well t (Fin mate edge vertex) h =
 
 -- ---- classes
 
-same_class-itself : (c : Class) → same_class c c ≡ true
+pub same_class-itself : (c : Class) → same_class c c ≡ true
 same_class-itself class.Body = refl
 same_class-itself class.Shell = refl
 same_class-itself class.Face = refl
@@ -173,14 +174,6 @@ walk-passes c all left k count w other =
     record { sum = omega (arith, none, step, sum); few = omega (arith, few) }
 
 -- ---- how many there are
-
-length-cons_option : {X : Type 0} (o : Option X) (xs : List X) → length (cons_option o xs) ≤ 1 + length xs
-length-cons_option None xs = omega arith
-length-cons_option (Some x) xs = omega arith
-
-length-filter_map : {X Y : Type 0} (g : X → Option Y) (xs : List X) → length (filter_map g xs) ≤ length xs
-length-filter_map g [] = omega arith
-length-filter_map g (x ∷ xs) = omega (arith, length-cons_option (g x) (filter_map g xs), length-filter_map g xs)
 
 length-firsts : (es : List (Tag × Entity)) → length (map (λ (x : Tag × Entity). x.0) es) ≡ length es
 length-firsts [] = refl

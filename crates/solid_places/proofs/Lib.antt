@@ -4,5 +4,4 @@ pub mod Classes
 pub mod Around
 pub mod RingPlaces
 pub mod Kids
-pub mod TestBodies
 mod Told

@@ -1,7 +1,7 @@
 -- What the shape of a map has under a tag, told by the entity there.
 use Rattle.std.proofs.Common.{◌≡◌, List, Option, Some, None, Result, Ok, Err, refl, sym, ap, ◌∙◌}
 use Rattle.std.specs.Prelude.{option_map}
-use Rattle.std.specs.FinMap.{get, get-entries, entries}
+use Rattle.std.specs.FinMap.{get, entries}
 use Rattle.pk_base.specs.Entity.{class_of}
 use Rattle.pk_base.specs.declared.tag.Tag.{Tag}
 use Rattle.pk_base.specs.declared.entity.Entity.{Entity}
@@ -14,17 +14,14 @@ use Rattle.solid_model.specs.Places.{asked, of_class}
 use Rattle.solid_model.specs.Links.{entity_of, links}
 use Rattle.solid_model.specs.Shapes.{item_of, shape_of}
 use Rattle.solid_model.specs.Sound.{IsSound, class_at}
-use Rattle.solid_sound.proofs.Asked.{get-links}
-use Rattle.solid_sound.proofs.OnlyShape.{shape-read}
-use Rattle.solid_sound.proofs.Reading.{find-map}
-use Rattle.solid_sound.proofs.RowKeeps.{well-shape}
+use Rattle.solid_sound.proofs.rows.Asked.{get-links}
+use Rattle.solid_sound.proofs.shapes.OnlyShape.{shape-read}
+use Rattle.solid_sound.proofs.rows.RowKeeps.{well-shape}
+use Rattle.solid_calls.proofs.Deaths.{item-mapped}
 use Rattle.solid_places.specs.Live.{live_or_refused}
 
-pub item-read : (m : EntityMap) (t : Tag) → item_at (shape_of m) t ≡ option_map (item_of (entries m)) (get m t)
-item-read m t = find-map (λ u. item_of (entries m)) t (entries m) ∙ ap (option_map (item_of (entries m))) (sym (get-entries m t))
-
 pub item-of : (m : EntityMap) (t : Tag) (e : Entity) → get m t ≡ Some e → item_at (shape_of m) t ≡ Some (item_of (entries m) e)
-item-of m t e h = item-read m t ∙ ap (option_map (item_of (entries m))) h
+item-of m t e h = item-mapped m t ∙ ap (option_map (item_of (entries m))) h
 
 -- a sound map is that of its shape
 pub map-links : (m : EntityMap) → IsSound m → m ≡ links (shape_of m)
@@ -66,7 +63,7 @@ gone-was t (Some x) e h = absurd (cc)
 pub not_found : (m : EntityMap) (t : Tag) (r : Result Entity Refusal) (e : Refusal) → r ≡ live_or_refused t (get m t) → r ≡ Err e → (item_at (shape_of m) t ≡ None) × (NoSuchTag t ≡ e)
 not_found m t r e is err =
     let was = gone-was t (get m t) e (sym is ∙ err) in
-    (item-read m t ∙ ap (option_map (item_of (entries m))) was.0, was.1)
+    (item-mapped m t ∙ ap (option_map (item_of (entries m))) was.0, was.1)
 
 -- a tag that is not live is refused
 pub refused : {A : Type 0} (f : Item → Option A) (m : EntityMap) (t : Tag) (r : Result Entity Refusal) (e : Refusal) → r ≡ live_or_refused t (get m t) → r ≡ Err e → asked f t (item_at (shape_of m) t) ≡ Err e

@@ -14,8 +14,8 @@ use Rattle.solid_model.specs.Places as place
 use Rattle.solid_model.specs.Places.{as_fin, fin_at, placed_fin, fins_at, end_at, end_in, end_of_item}
 use Rattle.solid_model.specs.Shapes.{shape_of}
 use Rattle.solid_model.specs.Sound.{IsSound, class_at}
-use Rattle.solid_sound.proofs.FinRings.{asked_fin}
-use Rattle.solid_sound.proofs.RowKeeps.{well-shape}
+use Rattle.solid_sound.proofs.shapes.FinRings.{asked_fin}
+use Rattle.solid_sound.proofs.rows.RowKeeps.{well-shape}
 use Rattle.solid_calls.specs.LinkedRings.{IsInRing, ring_at}
 use Rattle.solid_calls.proofs.Represented.{represents-sound, ring-of_fin}
 use Rattle.solid_places.proofs.Read.{item-of, entity-of, answered, same_Ok}

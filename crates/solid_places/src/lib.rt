@@ -16,5 +16,3 @@ mod fins;
 mod live;
 mod loops;
 mod parts;
-#[cfg(test)]
-mod tests;

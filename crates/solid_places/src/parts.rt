@@ -27,7 +27,7 @@ pub fn number_of_parts<L: Ledger>(
         ≡ length (parts_of_class class (shape_of store.now.state.map) owner) }
 {
     // There are no more of them than live entities, so they can be counted.
-    store.len();
+    let _len = store.len();
     let mut kids = store.kids(owner);
     let mut count: usize = 0;
     while let Some((_, kid)) = kids.next(steps) {

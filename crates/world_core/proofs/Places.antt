@@ -4,6 +4,7 @@ use Rattle.std.specs.Prelude.{slice_set, IsPermutation}
 use Rattle.std.specs.List.{flat_map, list_all, range_with_len, AllByRecursion}
 use Rattle.std.proofs.lemmas.Bool.{lt-ltb, and_from}
 use Rattle.std.proofs.lemmas.List.Sorted.{IsPermutation-sym, IsPermutation-trans, IsPermutation-append_left, IsPermutation-append_right, IsPermutation-append_comm}
+use Rattle.list_facts.proofs.Each.{ByRecursion-left, ByRecursion-right}
 
 -- an item is replaced by one of which f has more
 pub set_adds : {X A : Type 0} (f : X → List A) (xs : List X) (i : ℕ) (y d : X) (es : List A) → i < length xs → f y ≡ f (get_or xs i d) ++ es → IsPermutation (flat_map f xs ++ es) (flat_map f (slice_set xs i y))
@@ -39,19 +40,11 @@ pub range_below : (a k n : ℕ) → a + k < n + 1 → AllByRecursion (λ b. b < 
 range_below a zero n h = tt
 range_below a (suc k) n h = (omega arith, range_below (a + 1) k n (omega arith))
 
-left : {X : Type 0} (P : X → Type 0) (xs ys : List X) → AllByRecursion P (xs ++ ys) → AllByRecursion P xs
-left P [] ys h = tt
-left P (x ∷ xs) ys h = (h.0, left P xs ys h.1)
-
-right : {X : Type 0} (P : X → Type 0) (xs ys : List X) → AllByRecursion P (xs ++ ys) → AllByRecursion P ys
-right P [] ys h = h
-right P (x ∷ xs) ys h = right P xs ys h.1
-
 -- what holds of all that f gives holds of what it gives of one item
 pub of_one : {X A : Type 0} (P : A → Type 0) (f : X → List A) (xs : List X) (i : ℕ) (d : X) → i < length xs → AllByRecursion P (flat_map f xs) → AllByRecursion P (f (get_or xs i d))
 of_one P f [] i d h all = absurd (omega arith)
-of_one P f (x ∷ xs) zero d h all = left P (f x) (flat_map f xs) all
-of_one P f (x ∷ xs) (suc i) d h all = of_one P f xs i d (omega arith) (right P (f x) (flat_map f xs) all)
+of_one P f (x ∷ xs) zero d h all = ByRecursion-left P (f x) (flat_map f xs) all
+of_one P f (x ∷ xs) (suc i) d h all = of_one P f xs i d (omega arith) (ByRecursion-right P (f x) (flat_map f xs) all)
 
 pub all_below : (bs : List ℕ) (n : ℕ) → AllByRecursion (λ b. b < n) bs → list_all (λ o. nat_lt o n) bs ≡ true
 all_below [] n h = cc

@@ -1,24 +1,24 @@
 -- Over every list of events that may happen: each step is defined, the world stays a session, and each journal has the
 -- entries of the events on its partition.
-use Rattle.std.proofs.Common.{◌≡◌, ℕ, ◌+◌, ◌-◌, ◌≤◌, ◌==◌, Bool, true, false, not, cond, List, [], ◌∷◌, ◌++◌, length, Option, Some, None, Result, Ok, Err, refl, sym, ap, subst, ◌∙◌, arith, nat_lt}
+use Rattle.std.proofs.Common.{◌≡◌, ℕ, ◌-◌, ◌≤◌, ◌==◌, Bool, true, false, not, cond, List, [], ◌∷◌, ◌++◌, length, Option, Some, None, Result, Ok, Err, refl, sym, ap, subst, ◌∙◌, arith, nat_lt}
 use Rattle.std.specs.Prelude.{IsSome, is_some, nat_le, option_map}
 use Rattle.std.specs.Option.{option_map_or}
 use Rattle.std.specs.List.{cons_option, list_all}
 use Rattle.std.proofs.lemmas.Bool.{and_from, eqb-true, eqb-false, ne_eqb}
 use Rattle.std.proofs.lemmas.List.{append-nil, append_assoc, get_or-set_same, get_or-set_other, length-set}
-use Rattle.pk_base.specs.declared.act.Act.{Act}
 use Rattle.pk_base.specs.declared.act.Entry.{Entry}
 use Rattle.pk_base.specs.declared.act.Entry.TheVariants.{Claimed, Drew, Did, Spent, Released}
 use Rattle.pk_model.specs.State.{PartitionState}
 use Rattle.pk_model.specs.Modelling.{Modelling, IsModeller}
 use Rattle.pk_model.specs.Step.{short, step, Stepped}
 use Rattle.pk_model.proofs.Steps.{holder_holds, step-claimed, step-released, step-did}
+use Rattle.list_facts.proofs.Lengths.{cons_option-append}
 use Rattle.world_core.specs.declared.event.Event.{Event}
 use Rattle.world_core.specs.declared.event.Event.TheVariants as event
 use Rattle.world_core.specs.declared.event.WorldNo.{WorldNo}
 use Rattle.world_core.specs.declared.event.WorldNo.TheVariants as no
-use Rattle.world_core.specs.Event.{Supply, MayDo, entry_of, said_of, partition_of}
-use Rattle.world_core.specs.World.{WorldPartition, WorldState, Happening, MayHappen, world_step, partition_at, opened, with_entry}
+use Rattle.world_core.specs.Event.{Supply, MayDo, entry_of, partition_of}
+use Rattle.world_core.specs.World.{WorldPartition, WorldState, Happening, MayHappen, happening_by, step_by, world_step, partition_at, opened}
 use Rattle.world_core.specs.Session.{IsSession}
 use Rattle.world_core.specs.Runs.{ThreadEvent, EachMayHappen, after_event, world_after, entries_on, entry_asked, entry_on}
 use Rattle.world_core.proofs.Sessions.{owns_below, step_kept}
@@ -56,25 +56,15 @@ module _ (K : Modelling) (good : IsModeller K) (w : WorldState) (x : ThreadEvent
   below : list_all (λ o. nat_lt o w.blocks.next) (partition_at w p).state.blocks ≡ true
   below = owns_below K good w p session may.partition.0 may.partition.1
 
-  abbrev gives : Entry → Stepped → Happening
-  gives e r = record { world = with_entry w p e r.state; answer = said_of e r.answer }
-
-  -- the step, where this is what the event asks for
-  abbrev step_by : Result Entry WorldNo → Option Happening
-  step_by asked = elim asked [
-    | Err e ↦ Some (record { world = w; answer = Err e })
-    | Ok e ↦ option_map (gives e) (step K (partition_at w p).state e)
-  ]
-
   -- what holds where the event changes nothing, and where it appends an entry, holds
-  cases : (P : Option Happening → Option Entry → Type 0) → ((e : WorldNo) → P (Some (record { world = w; answer = Err e })) None) → ((e : Entry) (r : Stepped) → P (Some (gives e r)) (Some e)) → P (world_step K w x.thread x.event) (entry_asked (entry_of (partition_at w p).state w.blocks x.thread x.event))
+  cases : (P : Option Happening → Option Entry → Type 0) → ((e : WorldNo) → P (Some (record { world = w; answer = Err e })) None) → ((e : Entry) (r : Stepped) → P (Some (happening_by w p e r)) (Some e)) → P (world_step K w x.thread x.event) (entry_asked (entry_of (partition_at w p).state w.blocks x.thread x.event))
   cases P none some = by (entry_of (partition_at w p).state w.blocks x.thread x.event) refl
     where
-      stepped : (e : Entry) (o : Option Stepped) → IsSome o → P (option_map (gives e) o) (Some e)
+      stepped : (e : Entry) (o : Option Stepped) → IsSome o → P (option_map (happening_by w p e) o) (Some e)
       stepped e None h = absurd (cc)
       stepped e (Some r) h = some e r
 
-      by : (asked : Result Entry WorldNo) → entry_of (partition_at w p).state w.blocks x.thread x.event ≡ asked → P (step_by asked) (entry_asked asked)
+      by : (asked : Result Entry WorldNo) → entry_of (partition_at w p).state w.blocks x.thread x.event ≡ asked → P (step_by K w p asked) (entry_asked asked)
       by (Err e) is = none e
       by (Ok e) is = stepped e (step K (partition_at w p).state e) (defined_by K (partition_at w p).state w.blocks x.thread x.event e may.may below is)
 
@@ -121,10 +111,6 @@ pub all_kept : (K : Modelling) → IsModeller K → (w : WorldState) (xs : List 
 all_kept K good w [] session may = session
 all_kept K good w (x ∷ xs) session may = all_kept K good (after_event K w x) xs (after_kept K good w x session may.0) may.1
 
-cons_append : {X : Type 0} (o : Option X) (xs : List X) → cons_option o [] ++ xs ≡ cons_option o xs
-cons_append None xs = refl
-cons_append (Some x) xs = refl
-
 pub journals_grow : (K : Modelling) → IsModeller K → (w : WorldState) (xs : List ThreadEvent) (q : ℕ) → IsSession K w → EachMayHappen K w xs → 1 ≤ q → (partition_at (world_after K w xs) q).journal ≡ (partition_at w q).journal ++ entries_on K w q xs
 journals_grow K good w [] q session may one = sym (append-nil (partition_at w q).journal)
 journals_grow K good w (x ∷ xs) q session may one =
@@ -133,4 +119,4 @@ journals_grow K good w (x ∷ xs) q session may one =
     journals_grow K good mid xs q (after_kept K good w x session may.0) may.1 one
     ∙ ap (λ l. l ++ rest) (journal_grows K good w x session may.0 q one)
     ∙ append_assoc (partition_at w q).journal (cons_option (entry_on w q x) []) rest
-    ∙ ap (λ l. (partition_at w q).journal ++ l) (cons_append (entry_on w q x) rest)
+    ∙ ap (λ l. (partition_at w q).journal ++ l) (cons_option-append (entry_on w q x) rest)

@@ -23,8 +23,8 @@ use Rattle.world_core.specs.declared.event.Event.TheVariants as event
 use Rattle.world_core.specs.declared.event.Said.{Said}
 use Rattle.world_core.specs.declared.event.WorldNo.{WorldNo}
 use Rattle.world_core.specs.declared.event.WorldNo.TheVariants as no
-use Rattle.world_core.specs.Event.{Supply, entry_of, said_of, partition_of}
-use Rattle.world_core.specs.World.{WorldPartition, WorldState, Happening, Happens, world_step, beginning, partition_at, opened, with_entry, after_draw}
+use Rattle.world_core.specs.Event.{Supply, entry_of, partition_of}
+use Rattle.world_core.specs.World.{WorldPartition, WorldState, Happening, Happens, happening_by, step_by, world_step, beginning, partition_at, opened, with_entry, after_draw}
 use Rattle.world_core.specs.Session.{AreReplays, IsSession, journals_of, blocks_of}
 use Rattle.world_core.proofs.Places.{set_counts, range_more, range_below, of_one, all_below}
 
@@ -198,19 +198,16 @@ module _ (K : Modelling) (good : IsModeller K) (w : WorldState) (t : ℕ) (v : E
   p = partition_of v
 
   -- the entry that is asked for keeps the session
-  entry_step_kept : (e : Entry) → IsNext w.blocks (drawn_block e) → (o : Option Stepped) → step K (partition_at w p).state e ≡ o → (h : Happening) → option_map (λ (r : Stepped). record { world = with_entry w p e r.state; answer = said_of e r.answer }) o ≡ Some h → IsSession K h.world
+  entry_step_kept : (e : Entry) → IsNext w.blocks (drawn_block e) → (o : Option Stepped) → step K (partition_at w p).state e ≡ o → (h : Happening) → option_map (happening_by w p e) o ≡ Some h → IsSession K h.world
   entry_step_kept e next None is h k = absurd (cc)
   entry_step_kept e next (Some r) is h k =
-      let q : record { world = with_entry w p e r.state; answer = said_of e r.answer } ≡ h = same_Some _ h k in
+      let q : happening_by w p e r ≡ h = same_Some _ h k in
       subst (λ (x : Happening). IsSession K x.world) q (entry_kept K good w p session first last e r is next)
 
   pub step_kept : (h : Happening) → world_step K w t v ≡ Some h → IsSession K h.world
   step_kept h k = by (entry_of (partition_at w p).state w.blocks t v) refl k
     where
-      by : (asked : Result Entry WorldNo) → entry_of (partition_at w p).state w.blocks t v ≡ asked → elim asked as (λ (_ : Result Entry WorldNo). Option Happening) [
-        | Err e ↦ Some (record { world = w; answer = Err e })
-        | Ok e ↦ option_map (λ (r : Stepped). record { world = with_entry w p e r.state; answer = said_of e r.answer }) (step K (partition_at w p).state e)
-      ] ≡ Some h → IsSession K h.world
+      by : (asked : Result Entry WorldNo) → entry_of (partition_at w p).state w.blocks t v ≡ asked → step_by K w p asked ≡ Some h → IsSession K h.world
       by (Err e) is k = let q : record { world = w; answer = Err e } ≡ h = same_Some _ h k in subst (λ (x : Happening). IsSession K x.world) q session
       by (Ok e) is k = entry_step_kept e (asked_next (partition_at w p).state w.blocks t v e is) (step K (partition_at w p).state e) refl h k
 

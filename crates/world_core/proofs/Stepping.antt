@@ -10,11 +10,11 @@ use Rattle.pk_base.specs.declared.act.Entry.TheVariants.{Claimed, Drew, Did, Spe
 use Rattle.pk_base.specs.declared.act.Reply.{Reply}
 use Rattle.pk_base.specs.declared.refusal.Refusal.{Refusal}
 use Rattle.pk_model.specs.Modelling.{Modelling, IsModeller}
-use Rattle.pk_model.specs.Step.{step, Stepped}
+use Rattle.pk_model.specs.Step.{step}
 use Rattle.pk_model.specs.Replay.{drawn_block}
 use Rattle.partition.specs.Partition.{PartitionView, Stays}
 use Rattle.world_core.specs.Event.{Supply, entry_of, said_of, partition_of}
-use Rattle.world_core.specs.World.{WorldPartition, WorldState, Happening, Happens, partition_at, opened, world_step, with_entry, after_draw}
+use Rattle.world_core.specs.World.{WorldPartition, WorldState, Happening, Happens, happening_by, partition_at, opened, step_by, world_step, with_entry, after_draw}
 use Rattle.world_core.specs.Doing.{Follows, Does, next_after}
 use Rattle.world_core.specs.Inside.{seen_as, world_of}
 use Rattle.world_core.specs.Session.{IsSession}
@@ -54,7 +54,8 @@ module _ (K : Modelling) (views : List PartitionView) (blocks : Supply) (threads
   abbrev pub replaced : PartitionView → Supply → WorldState
   replaced new after = world_of (slice_set views (p - 1) new) after threads
 
-  old_is : partition_at w p ≡ seen_as old
+  -- the partition in its place is the old one
+  pub old_is : partition_at w p ≡ seen_as old
   old_is = get_or-map seen_as views (p - 1) old (opened p) within ∙ ap seen_as is
 
   stays_world : (new : PartitionView) → Stays old new → map seen_as (slice_set views (p - 1) new) ≡ map seen_as views
@@ -63,20 +64,12 @@ module _ (K : Modelling) (views : List PartitionView) (blocks : Supply) (threads
       same_seen : seen_as new ≡ seen_as old
       same_seen = λ i. record { state = s.state i; journal = s.journal i }
 
-  -- the world's step, where the event asks for this
-  abbrev step_by : Result Entry WorldNo → Option Happening
-  step_by asked = elim asked [
-    | Err e ↦ Some (record { world = w; answer = Err e })
-    | Ok e ↦ option_map (λ (r : Stepped). record { world = with_entry w p e r.state; answer = said_of e r.answer }) (step K (partition_at w p).state e)
-  ]
-
-  follows : (asked : Result Entry WorldNo) (answer : Result Said WorldNo) (new : PartitionView) → Follows K old asked answer new → step_by asked ≡ Some (record { world = replaced new (blocks_after blocks answer); answer = answer })
+  follows : (asked : Result Entry WorldNo) (answer : Result Said WorldNo) (new : PartitionView) → Follows K old asked answer new → step_by K w p asked ≡ Some (record { world = replaced new (blocks_after blocks answer); answer = answer })
   follows (Err e) answer new (said, s) =
       let happens : WorldState → Result Said WorldNo → Option Happening = λ x a. Some (record { world = x; answer = a }) in
       subst (λ (a : Result Said WorldNo). happens w (Err e) ≡ happens (replaced new (blocks_after blocks a)) a) (sym said)
       (ap (λ (qs : List WorldPartition). happens (record { partitions = qs; blocks = blocks; threads = threads }) (Err e)) (sym (stays_world new s)))
   follows (Ok e) answer new (reply, said, a) =
-      let gives : Stepped → Happening = λ r. record { world = with_entry w p e r.state; answer = said_of e r.answer } in
       let stepped : step K (partition_at w p).state e ≡ Some (record { state = new.state; answer = reply }) = ap (λ (q : WorldPartition). step K q.state e) old_is ∙ a.steps in
       let journal : new.journal ≡ (partition_at w p).journal ++ e ∷ [] = a.journal ∙ ap (λ (q : WorldPartition). q.journal ++ e ∷ []) (sym old_is) in
       let partitions : slice_set (map seen_as views) (p - 1) (record { state = new.state; journal = (partition_at w p).journal ++ e ∷ [] }) ≡ map seen_as (slice_set views (p - 1) new) =
@@ -84,23 +77,16 @@ module _ (K : Modelling) (views : List PartitionView) (blocks : Supply) (threads
       let blocks_are : after_draw blocks (drawn_block e) ≡ blocks_after blocks (said_of e reply) = sym (after_said blocks e reply) in
       let world : with_entry w p e new.state ≡ replaced new (blocks_after blocks (said_of e reply)) = λ i. record { partitions = partitions i; blocks = blocks_are i; threads = threads } in
       let happens : WorldState → Result Said WorldNo → Option Happening = λ x a. Some (record { world = x; answer = a }) in
-      ap (option_map gives) stepped
+      ap (option_map (happening_by w p e)) stepped
       ∙ ap (λ (x : WorldState). happens x (said_of e reply)) world
       ∙ subst (λ (a : Result Said WorldNo). happens (replaced new (blocks_after blocks (said_of e reply))) (said_of e reply) ≡ happens (replaced new (blocks_after blocks a)) a) (sym said) refl
-
-  -- the world's step, where it is this partition's
-  abbrev step_at : ℕ → Option Happening
-  step_at q = elim (entry_of (partition_at w q).state blocks t v) [
-    | Err e ↦ Some (record { world = w; answer = Err e })
-    | Ok e ↦ option_map (λ (r : Stepped). record { world = with_entry w q e r.state; answer = said_of e r.answer }) (step K (partition_at w q).state e)
-  ]
 
   -- what the code does is the world's step
   pub does_step : p ≡ partition_of v → (answer : Result Said WorldNo) (new : PartitionView) → Does K old (entry_of old.state blocks t v) answer new → Happens K w t v answer (replaced new (blocks_after blocks answer))
   does_step named answer new d = by answer d
     where
       steps : (a : Result Said WorldNo) → Follows K old (entry_of old.state blocks t v) a new → world_step K w t v ≡ Some (record { world = replaced new (blocks_after blocks a); answer = a })
-      steps a f = ap step_at (sym named) ∙ ap (λ (q : WorldPartition). step_by (entry_of q.state blocks t v)) old_is ∙ follows (entry_of old.state blocks t v) a new f
+      steps a f = ap (λ q. step_by K w q (entry_of (partition_at w q).state blocks t v)) (sym named) ∙ ap (λ (q : WorldPartition). step_by K w p (entry_of q.state blocks t v)) old_is ∙ follows (entry_of old.state blocks t v) a new f
 
       by : (a : Result Said WorldNo) → Does K old (entry_of old.state blocks t v) a new → Happens K w t v a (replaced new (blocks_after blocks a))
       by (Ok s) d = steps (Ok s) d

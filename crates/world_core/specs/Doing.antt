@@ -18,7 +18,7 @@ Follows K old (Ok e) answer new =
     (reply : Option (Result Reply Refusal)) × (answer ≡ said_of e reply) × Appends K old e reply new
 Follows K old (Err e) answer new = (answer ≡ Err e) × Stays old new
 
--- This was done to the partition. For want of memory nothing changed.
+-- This was done to the partition; where memory ran out, nothing changed.
 abbrev pub Does : Modelling → PartitionView → Result Entry WorldNo → Result Said WorldNo
     → PartitionView → Type 0
 Does K old asked answer new =

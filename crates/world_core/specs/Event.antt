@@ -1,7 +1,6 @@
 -- The events of a world: when each may happen, what it appends to the journal of its partition, and
 -- what it answers.
 use Rattle.std.specs.Prelude.{◌≡◌, ℕ, ◌<◌, nat_le, if◌then◌else◌, Option, Some, None, Result, Ok, Err}
-use Rattle.pk_base.specs.declared.act.Act.{Act}
 use Rattle.pk_base.specs.declared.act.Entry.{Entry}
 use Rattle.pk_base.specs.declared.act.Entry.TheVariants.{Claimed, Drew, Did, Spent, Released}
 use Rattle.pk_base.specs.declared.act.Reply.{Reply}
@@ -35,9 +34,10 @@ pub record Supply : Type 0 where
 abbrev pub supply : ℕ → ℕ → Supply
 supply next last = record { next = next; last = last }
 
--- Thread t may do the event to its partition, which is in this state. All but Claim ask that the
--- thread holds it, an act that it is not short of tags, and one that is given up that it is, that
--- no block is left, and that the number is above the last.
+-- Thread t may do the event to its partition, which is in this state. Every event but Claim
+-- requires that the thread holds the partition. Act requires besides that the act is not short of
+-- tags. GiveUp requires that it is, that no block is left, and that the number is above the last
+-- block.
 abbrev pub MayDo : Modelling → PartitionState → Supply → ℕ → Event → Type 0
 MayDo K s blocks t (event.Claim p) = Unit {0}
 MayDo K s blocks t (event.Release p) = s.holder ≡ Some t
@@ -78,7 +78,7 @@ said_of (Drew t b) answer = Ok (said.Drew b)
 said_of (Did t a) answer = said_of_act answer
 said_of (Spent t number a) answer = Ok said.Done
 
--- what holds of an answer for want of memory, and what holds of every other
+-- A holds, unless the answer is out of memory; then B holds
 abbrev pub UnlessNoMemory : Result Said WorldNo → Type 0 → Type 0 → Type 0
 UnlessNoMemory (Ok s) A B = A
 UnlessNoMemory (Err (no.Refused e)) A B = A

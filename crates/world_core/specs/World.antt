@@ -85,18 +85,24 @@ pub record Happening : Type 0 where
   pub world : WorldState
   pub answer : Result Said WorldNo
 
--- What the event of thread t gives; nothing where the step of its entry is not defined. An event
--- without an entry changes nothing.
+-- what happens where partition p has the entry more, by this step
+abbrev pub happening_by : WorldState → ℕ → Entry → Stepped → Happening
+happening_by w p e r = record {
+  world = with_entry w p e r.state;
+  answer = said_of e r.answer;
+}
+
+-- What happens where an event on partition p appends this entry; nothing where the step of the
+-- entry is not defined. An event that appends none changes nothing.
+abbrev pub step_by : Modelling → WorldState → ℕ → Result Entry WorldNo → Option Happening
+step_by K w p (Ok e) = option_map (happening_by w p e) (step K (partition_at w p).state e)
+step_by K w p (Err e) = Some (record { world = w; answer = Err e })
+
+-- what the event of thread t gives
 abbrev pub world_step : Modelling → WorldState → ℕ → Event → Option Happening
 world_step K w t v =
     let p = partition_of v in
-    elim (entry_of (partition_at w p).state w.blocks t v) [
-      | Err e ↦ Some (record { world = w; answer = Err e })
-      | Ok e ↦ option_map (λ (r : Stepped). record {
-        world = with_entry w p e r.state;
-        answer = said_of e r.answer;
-      }) (step K (partition_at w p).state e)
-    ]
+    step_by K w p (entry_of (partition_at w p).state w.blocks t v)
 
 -- there are as many partitions and threads, and the last block is the same
 pub record IsAsLarge (old new : WorldState) : Type 0 where
@@ -104,7 +110,7 @@ pub record IsAsLarge (old new : WorldState) : Type 0 where
   pub threads : new.threads ≡ old.threads
   pub last : new.blocks.last ≡ old.blocks.last
 
--- The event of thread t happened with this answer. For want of memory nothing changed.
+-- The event of thread t happened with this answer; where memory ran out, nothing changed.
 abbrev pub Happens : Modelling → WorldState → ℕ → Event → Result Said WorldNo → WorldState → Type 0
 Happens K old t v answer new =
     UnlessNoMemory answer

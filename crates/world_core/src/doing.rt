@@ -1,11 +1,13 @@
 //! The events, each done to its partition.
-ghost use Rattle.std.specs.Prelude.{◌≡◌, ◌+◌, ◌<◌, ◌≤◌, IsSome, IsTrue, Ok, nat_lt};
+ghost use Rattle.std.specs.Prelude.{◌≡◌, ℕ, ◌+◌, ◌<◌, ◌≤◌, IsSome, IsTrue, Ok, nat_lt};
 ghost use Rattle.std.specs.List.{list_all};
 ghost use Rattle.pk_base.specs.declared.act.Entry.TheVariants as entry;
 ghost use Rattle.pk_model.specs.Step.{short};
 ghost use Rattle.partition.specs.Partition.{holder_of};
 ghost use Rattle.world_core.specs.Event.{MayDo, claim_of, draw_of, entry_of, supply};
 ghost use Rattle.world_core.specs.Doing.{Does};
+ghost use Rattle.world_core.specs.declared.event.Event.TheVariants as events;
+ghost use Rattle.world_core.specs.declared.event.Said.TheVariants as said;
 ghost use Rattle.world_core.specs.Doing.{next_after as next_block_after};
 
 use crate::{Event, Said, WorldNo};
@@ -27,12 +29,16 @@ pub(crate) fn do_event<K: Modeller, L: Ledger>(
     requires may { MayDo K.modelling partition.old.state (supply next last) thread event }
     requires above { IsTrue (list_all (λ o. nat_lt o next) partition.old.state.blocks) }
     requires last { last ≤ LAST_BLOCK }
-    ensures { Does K.modelling partition.old
+    ensures does { Does K.modelling partition.old
         (entry_of partition.old.state (supply next last) thread event) result partition.new }
+    ensures release { (p : ℕ) → event ≡ events.Release p → result ≡ Ok said.Done }
 {
     match event {
         Event::Claim(_) => claim(partition, thread),
-        Event::Release(_) => release(partition),
+        Event::Release(_) => {
+            release(partition);
+            Ok(Said::Done)
+        }
         Event::Draw(_) => draw(partition, next, last),
         Event::Act(_, act) => do_act(partition, act, steps),
         Event::GiveUp(_, act, number) => give_up(partition, act, number),
@@ -51,14 +57,13 @@ fn claim<K: Modeller>(partition: &mut Partition<K>, thread: u32) -> Result<Said,
     Ok(Said::Done)
 }
 
-/// The thread lets the partition go.
-fn release<K: Modeller>(partition: &mut Partition<K>) -> Result<Said, WorldNo>
+/// The thread lets the partition go. It takes no memory.
+pub(crate) fn release<K: Modeller>(partition: &mut Partition<K>)
     requires { IsSome partition.old.state.holder }
     ensures { Does K.modelling partition.old
-        (Ok (entry.Released (holder_of partition.old))) result partition.new }
+        (Ok (entry.Released (holder_of partition.old))) (Ok said.Done) partition.new }
 {
     partition.release();
-    Ok(Said::Done)
 }
 
 /// The thread draws the next block for the partition, where it is not above the last.

@@ -1,5 +1,5 @@
 //! The world, and its step.
-ghost use Rattle.std.specs.Prelude.{◌≡◌, ◌≢◌, ℕ, ◌+◌, ◌≤◌, IfOk, length, map};
+ghost use Rattle.std.specs.Prelude.{◌≡◌, ◌≢◌, ℕ, ◌+◌, ◌≤◌, IfOk, Ok, length, map};
 ghost use Rattle.std.specs.List.{range_with_len};
 ghost use Rattle.pk_base.specs.declared.tag.TheConstants.{LAST_BLOCK};
 ghost use Rattle.pk_model.specs.Apart.{Apart};
@@ -7,8 +7,10 @@ ghost use Rattle.world_core.specs.Event.{partition_of};
 ghost use Rattle.world_core.specs.World.{Happens, IsAsLarge, MayHappen, beginning, opened, partition_at};
 ghost use Rattle.world_core.specs.Session.{IsSession, journals_of};
 ghost use Rattle.world_core.specs.Inside.{seen_as};
+ghost use Rattle.world_core.specs.declared.event.Event.TheVariants as events;
+ghost use Rattle.world_core.specs.declared.event.Said.TheVariants as said;
 
-use crate::doing::{do_event, next_after};
+use crate::doing::{do_event, next_after, release};
 use crate::{Event, Said, WorldNo};
 use entity_store::{Modeller, Steps};
 use partition::Partition;
@@ -89,7 +91,7 @@ impl<K: Modeller> World<K> {
     }
 
     /// Makes an event of a thread happen, which changes its partition alone. Without memory nothing
-    /// changes.
+    /// changes. A release takes no memory.
     pub fn step<L: Ledger>(
         &mut self,
         thread: u32,
@@ -98,6 +100,7 @@ impl<K: Modeller> World<K> {
     ) -> Result<Said, WorldNo>
         requires { MayHappen K.modelling self.old thread event }
         ensures happens { Happens K.modelling self.old thread event result self.new }
+        ensures release { (p : ℕ) → event ≡ events.Release p → result ≡ Ok said.Done }
         ensures others { (q : ℕ) → 1 ≤ q → q ≢ partition_of event
             → partition_at self.new q ≡ partition_at self.old q }
         ensures large { IsAsLarge self.old self.new }
@@ -109,6 +112,20 @@ impl<K: Modeller> World<K> {
         let answer = do_event(partition, next, last, thread, event, steps);
         self.next = next_after(next, &answer);
         answer
+    }
+
+    /// Makes a thread let partition p go, which it holds: the event `Release`. It takes no memory,
+    /// and cannot fail.
+    pub fn release(&mut self, thread: u32, p: u32)
+        requires { MayHappen K.modelling self.old thread (events.Release p) }
+        ensures happens { Happens K.modelling self.old thread (events.Release p)
+            (Ok said.Done) self.new }
+        ensures others { (q : ℕ) → 1 ≤ q → q ≢ p
+            → partition_at self.new q ≡ partition_at self.old q }
+        ensures large { IsAsLarge self.old self.new }
+        ensures session { IsSession K.modelling self.new }
+    {
+        release(&mut self.partitions[p as usize - 1]);
     }
 
     /// All its partitions, in the order of their numbers.

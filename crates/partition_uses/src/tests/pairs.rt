@@ -7,7 +7,7 @@ use super::{
 use crate::PairBodies;
 use entity_store::Steps;
 use partition::Partition;
-use pk_base::{Act, Call, Entity, Entry, Refusal, Tag, Triple};
+use pk_base::{Entity, Entry, Refusal, Tag};
 use std::alloc::Global;
 use std::marker::Brand;
 use std::process::Abort;
@@ -80,6 +80,7 @@ fn play<L: Ledger, R: Abort>(rt: &R, alloc: Global, blank: Blank) -> Result<Vec<
     partition.release();
     assert_eq!(rt; partition.holder(), None);
     assert_eq!(rt; partition.journal().len(), 11);
+    assert_eq!(rt; partition.live_marks(), 2);
     Ok(partition.into_journal())
 }
 
@@ -100,44 +101,4 @@ fn pairs_roll_back_and_forward(rt: HostRuntime) -> Result<(), Fail> {
         "Released(1)",
     ];
     check_journal(&rt, rt.alloc(), &journal, expected.as_slice())
-}
-
-/// How many blocks are missing: for a pair, for a mark, for going to the initial mark, and for a
-/// call that is refused.
-fn check_short<L: Ledger>(
-    rt: &impl Abort,
-    partition: &Partition<PairBodies>,
-    pair: u64,
-    mark: u64,
-    steps: &mut Steps<L>,
-) {
-    let at = Triple { x: 0, y: 0, z: 0 };
-    assert_eq!(rt; partition.short(&Act::Call(Call::Mvfs { at }), steps), pair);
-    assert_eq!(rt; partition.short(&Act::Mark, steps), mark);
-    assert_eq!(rt; partition.short(&Act::Goto(Tag(64)), steps), 0);
-    assert_eq!(rt; partition.short(&Act::Call(Call::Bodies), steps), 0);
-}
-
-fn use_up<L: Ledger, R: Abort>(rt: &R, alloc: Global, blank: Blank) -> Result<(), Fail>
-    requires name { blank.name ≡ L.name }
-    requires parts { blank.parts ≡ L.parts }
-    requires some { 0 < blank.parts }
-{
-    let mut steps = Steps::<L>::new(blank);
-    let mut partition = Partition::begin(alloc, 1, PairBodies)?;
-    partition.claim(1)?;
-    for _ in 0..31u32 {
-        make(rt, &mut partition, 0, &mut steps)?;
-    }
-    check_state(rt, &partition, 64, 63, 1, 62);
-    check_short(rt, &partition, 1, 0, &mut steps);
-    mark(rt, &mut partition, &mut steps)?;
-    check_state(rt, &partition, 127, 64, 0, 62);
-    check_short(rt, &partition, 1, 1, &mut steps);
-    Ok(())
-}
-
-#[test]
-fn blocks_run_short(rt: HostRuntime) -> Result<(), Fail> {
-    use_up::<Brand, HostRuntime>(&rt, rt.alloc(), Blank::new(1))
 }

@@ -6,7 +6,7 @@ pub put-requires-clause-owned : goal.put-requires-clause-owned
 put-requires-clause-owned g c =
     let old = c.args.rec.now.store.now in
     let named = named-viewed _ old c.args.owner c.args.name _ c.view-2.ensures c.attribute_named.ensures in
-    named-owned old.state c.args.owner c.args.name c.unwrap-tag.result (hosted-viewed _ old c.view.ensures c.blocks-2.ensures.hosted) c.requires.sound (named ∙ c.unwrap-tag.ensures)
+    named-owned old.state c.args.owner c.args.name c.unwrap-tag.result (hosted-viewed _ old c.view.ensures c.blocks-blocks.ensures.hosted) c.requires.sound (named ∙ c.unwrap-tag.ensures)
 
 pub returns-clause-done : goal.returns-clause-done
 returns-clause-done g c =

@@ -15,7 +15,7 @@ put-requires-clause-owned g c =
       | in-Some w ↦ chosen-named old.state.map c.args.owner c.args.name (left c.args.tags.now) tag _ (named ∙ w.in-Some.is) w.tag-is
       | in-None w ↦ chosen-next old.state.map c.args.owner c.args.name (left c.args.tags.now) _ tag _ (named ∙ w.in-None.is) w.tag-is w.take_tag-tag.ensures.tag c.requires.tags.free
     ] in
-    set-owned old.state c.args.owner c.args.name c.args.value (left c.args.tags.now) tag (hosted-viewed _ old c.view.ensures c.blocks-2.ensures.hosted) c.requires.may.sound c.requires.may.goes chosen c.requires.tags.owned
+    set-owned old.state c.args.owner c.args.name c.args.value (left c.args.tags.now) tag (hosted-viewed _ old c.view.ensures c.blocks-blocks.ensures.hosted) c.requires.may.sound c.requires.may.goes chosen c.requires.tags.owned
 
 pub put-requires-clause-hosted : goal.put-requires-clause-hosted
 put-requires-clause-hosted g c =
@@ -26,7 +26,7 @@ put-requires-clause-hosted g c =
       | in-Some w ↦ chosen-named old.state.map c.args.owner c.args.name (left c.args.tags.now) tag _ (named ∙ w.in-Some.is) w.tag-is
       | in-None w ↦ chosen-next old.state.map c.args.owner c.args.name (left c.args.tags.now) _ tag _ (named ∙ w.in-None.is) w.tag-is w.take_tag-tag.ensures.tag c.requires.tags.free
     ] in
-    set-hosted old.state c.args.owner c.args.name c.args.value _ (left c.args.tags.now) tag (hosted-viewed _ old c.view.ensures c.blocks-2.ensures.hosted) c.requires.may.sound c.requires.may.goes chosen (put-requires-clause-owned g c)
+    set-hosted old.state c.args.owner c.args.name c.args.value _ (left c.args.tags.now) tag (hosted-viewed _ old c.view.ensures c.blocks-blocks.ensures.hosted) c.requires.may.sound c.requires.may.goes chosen (put-requires-clause-owned g c)
 
 pub returns-clause-done : goal.returns-clause-done
 returns-clause-done g c =

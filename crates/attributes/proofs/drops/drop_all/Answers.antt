@@ -6,7 +6,7 @@ use Rattle.attributes.proofs.drops.drop_all.Goals as goal
 pub put-requires-clause-owned : goal.put-requires-clause-owned
 put-requires-clause-owned g c =
     let now = c.loop-tag.rec.store.now in
-    one-owned now.state c.args.owner c.in-Some.tag (hosted-viewed _ now c.view-in-Some.ensures c.blocks-in-Some.ensures.hosted) (among-viewed _ now c.args.owner c.in-Some.tag c.view.ensures c.in-Some.ensures.some)
+    one-owned now.state c.args.owner c.in-Some.tag (hosted-viewed _ now c.view-in-Some.ensures c.blocks-blocks.ensures.hosted) (among-viewed _ now c.args.owner c.in-Some.tag c.view.ensures c.in-Some.ensures.some)
 
 pub put-requires-clause-room : goal.put-requires-clause-room
 put-requires-clause-room g c =

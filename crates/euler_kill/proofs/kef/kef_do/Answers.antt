@@ -8,7 +8,7 @@ use Rattle.solid_calls.specs.LinkedRings.{next_at}
 use Rattle.solid_calls.specs.Room.{HasRoomForThese, PutsAmong}
 use Rattle.solid_edits.specs.Deaths.{Kills, with_attributes}
 use Rattle.solid_edits.proofs.PlacedFins.{found_fin}
-use Rattle.euler_kill.proofs.KefRoom.{kef-goes}
+use Rattle.euler_kill.proofs.KefFound.{kef-goes}
 use Rattle.euler_kill.proofs.KefDone.{asks-joined, joined-room, kef-done, label-other, label-owned, label-ring, label-room, loop-face_owned, loop-owned, loop-ring, loop-room, next-some, side-owned, side-room}
 use Rattle.euler_kill.proofs.kef.kef_do.Goals as goal
 
@@ -20,7 +20,7 @@ ring_next-first-requires g c =
     let viewed = c.view-store.ensures in
     let u = found_fin a.state.map x c.in-Ok.u in
     let v = found_fin a.state.map u.mate c.in-Ok-fin_at.v in
-    let G = kef-goes s a viewed x u v c.blocks-2.ensures.hosted c.requires c.in-Ok.ensures.found c.in-Ok-fin_at.ensures.found refl c.in-Ok.ensures.ring refl c.in-Ok-fin_at.ensures.ring in
+    let G = kef-goes s a viewed x u v c.blocks-blocks.ensures.hosted c.requires c.in-Ok.ensures.found c.in-Ok-fin_at.ensures.found refl c.in-Ok.ensures.ring refl c.in-Ok-fin_at.ensures.ring in
     subst (λ (z : StoreView). IsSome (next_at z.state.map x)) (sym viewed) (next-some s x u v G)
 
 pub join_rings-requires : goal.join_rings-requires
@@ -31,7 +31,7 @@ join_rings-requires g c =
     let viewed = c.view-store.ensures in
     let u = found_fin a.state.map x c.in-Ok.u in
     let v = found_fin a.state.map u.mate c.in-Ok-fin_at.v in
-    let G = kef-goes s a viewed x u v c.blocks-2.ensures.hosted c.requires c.in-Ok.ensures.found c.in-Ok-fin_at.ensures.found refl c.in-Ok.ensures.ring refl c.in-Ok-fin_at.ensures.ring in
+    let G = kef-goes s a viewed x u v c.blocks-blocks.ensures.hosted c.requires c.in-Ok.ensures.found c.in-Ok-fin_at.ensures.found refl c.in-Ok.ensures.ring refl c.in-Ok-fin_at.ensures.ring in
     let asks = asks-joined s x u v G in
     record {
       x = asks.ring;
@@ -48,7 +48,7 @@ relabel-requires g c =
     let viewed = c.view-store.ensures in
     let u = found_fin a.state.map x c.in-Ok.u in
     let v = found_fin a.state.map u.mate c.in-Ok-fin_at.v in
-    let G = kef-goes s a viewed x u v c.blocks-2.ensures.hosted c.requires c.in-Ok.ensures.found c.in-Ok-fin_at.ensures.found refl c.in-Ok.ensures.ring refl c.in-Ok-fin_at.ensures.ring in
+    let G = kef-goes s a viewed x u v c.blocks-blocks.ensures.hosted c.requires c.in-Ok.ensures.found c.in-Ok-fin_at.ensures.found refl c.in-Ok.ensures.ring refl c.in-Ok-fin_at.ensures.ring in
     let first = c.ring_next-first.result in
     let next = subst (λ (z : StoreView). next_at z.state.map x ≡ Some first) viewed c.ring_next-first.ensures in
     record {
@@ -66,7 +66,7 @@ put_loop-requires g c =
     let viewed = c.view-store.ensures in
     let u = found_fin a.state.map x c.in-Ok.u in
     let v = found_fin a.state.map u.mate c.in-Ok-fin_at.v in
-    let G = kef-goes s a viewed x u v c.blocks-2.ensures.hosted c.requires c.in-Ok.ensures.found c.in-Ok-fin_at.ensures.found refl c.in-Ok.ensures.ring refl c.in-Ok-fin_at.ensures.ring in
+    let G = kef-goes s a viewed x u v c.blocks-blocks.ensures.hosted c.requires c.in-Ok.ensures.found c.in-Ok-fin_at.ensures.found refl c.in-Ok.ensures.ring refl c.in-Ok-fin_at.ensures.ring in
     let first = c.ring_next-first.result in
     let next = subst (λ (z : StoreView). next_at z.state.map x ≡ Some first) viewed c.ring_next-first.ensures in
     record {
@@ -85,7 +85,7 @@ kill_all-requires-clause-owned g c =
     let viewed = c.view-store.ensures in
     let u = found_fin a.state.map x c.in-Ok.u in
     let v = found_fin a.state.map u.mate c.in-Ok-fin_at.v in
-    let G = kef-goes s a viewed x u v c.blocks-2.ensures.hosted c.requires c.in-Ok.ensures.found c.in-Ok-fin_at.ensures.found refl c.in-Ok.ensures.ring refl c.in-Ok-fin_at.ensures.ring in
+    let G = kef-goes s a viewed x u v c.blocks-blocks.ensures.hosted c.requires c.in-Ok.ensures.found c.in-Ok-fin_at.ensures.found refl c.in-Ok.ensures.ring refl c.in-Ok-fin_at.ensures.ring in
     let first = c.ring_next-first.result in
     let next = subst (λ (z : StoreView). next_at z.state.map x ≡ Some first) viewed c.ring_next-first.ensures in
     let is = c.as_slice.ensures ∙ c.side_of.ensures in
@@ -101,7 +101,7 @@ kill_all-requires-clause-room g c =
     let viewed = c.view-store.ensures in
     let u = found_fin a.state.map x c.in-Ok.u in
     let v = found_fin a.state.map u.mate c.in-Ok-fin_at.v in
-    let G = kef-goes s a viewed x u v c.blocks-2.ensures.hosted c.requires c.in-Ok.ensures.found c.in-Ok-fin_at.ensures.found refl c.in-Ok.ensures.ring refl c.in-Ok-fin_at.ensures.ring in
+    let G = kef-goes s a viewed x u v c.blocks-blocks.ensures.hosted c.requires c.in-Ok.ensures.found c.in-Ok-fin_at.ensures.found refl c.in-Ok.ensures.ring refl c.in-Ok-fin_at.ensures.ring in
     let first = c.ring_next-first.result in
     let next = subst (λ (z : StoreView). next_at z.state.map x ≡ Some first) viewed c.ring_next-first.ensures in
     let is = c.as_slice.ensures ∙ c.side_of.ensures in
@@ -117,7 +117,7 @@ returns-clause-done g c =
     let viewed = c.view-store.ensures in
     let u = found_fin a.state.map x c.in-Ok.u in
     let v = found_fin a.state.map u.mate c.in-Ok-fin_at.v in
-    let G = kef-goes s a viewed x u v c.blocks-2.ensures.hosted c.requires c.in-Ok.ensures.found c.in-Ok-fin_at.ensures.found refl c.in-Ok.ensures.ring refl c.in-Ok-fin_at.ensures.ring in
+    let G = kef-goes s a viewed x u v c.blocks-blocks.ensures.hosted c.requires c.in-Ok.ensures.found c.in-Ok-fin_at.ensures.found refl c.in-Ok.ensures.ring refl c.in-Ok-fin_at.ensures.ring in
     let first = c.ring_next-first.result in
     let next = subst (λ (z : StoreView). next_at z.state.map x ≡ Some first) viewed c.ring_next-first.ensures in
     let is = c.as_slice.ensures ∙ c.side_of.ensures in

@@ -8,13 +8,13 @@ use Rattle.solid_calls.proofs.Sizes.{few-ring}
 use Rattle.solid_edits.specs.Deaths.{with_attributes}
 use Rattle.solid_edits.proofs.PlacedFins.{found_fin}
 use Rattle.euler_kill.proofs.KefReached.{kef_killed}
-use Rattle.euler_kill.proofs.KefRoom.{kef-need}
+use Rattle.euler_kill.proofs.KefFound.{kef-need}
 use Rattle.euler_kill.proofs.kef.kef_need.Goals as goal
 
 pub overflow_add-fins : goal.overflow_add-fins
 overflow_add-fins g c =
     let s = c.args.store.now.state in
-    let b = c.blocks-2.ensures in
+    let b = c.blocks-blocks.ensures in
     let one = few-ring s b.ascending b.range b.hosted (ring_at s.map c.args.fin) c.in_ok-u.ensures.ring.ring in
     let two = few-ring s b.ascending b.range b.hosted (ring_at s.map c.in_ok-u.u.mate) c.in_ok-v.ensures.ring.ring in
     let fins = c.ring_len.ensures in
@@ -24,7 +24,7 @@ overflow_add-fins g c =
 pub overflow_add-result-2 : goal.overflow_add-result-2
 overflow_add-result-2 g c =
     let s = c.args.store.now.state in
-    let b = c.blocks-2.ensures in
+    let b = c.blocks-blocks.ensures in
     let one = few-ring s b.ascending b.range b.hosted (ring_at s.map c.args.fin) c.in_ok-u.ensures.ring.ring in
     let two = few-ring s b.ascending b.range b.hosted (ring_at s.map c.in_ok-u.u.mate) c.in_ok-v.ensures.ring.ring in
     let fins = c.ring_len.ensures in

@@ -5,23 +5,24 @@ use Rattle.pk_base.specs.Entity.{same_tag}
 use Rattle.solid_model.specs.Euler.{cost_of, list_of}
 use Rattle.solid_model.specs.Rows.{Row}
 use Rattle.solid_model.specs.Shapes.{shape_of}
-use Rattle.solid_sound.proofs.Lists.{same_means}
+use Rattle.solid_sound.proofs.lists.Neighbours.{same_means}
 use Rattle.solid_calls.specs.LinkedRings.{ring_at}
 use Rattle.solid_calls.proofs.Sizes.{few-ring}
 use Rattle.solid_edits.specs.Deaths.{with_attributes}
-use Rattle.euler_kill.proofs.KemrReached.{IsOnBothSides, kemr-counts, kemr-is, placed_with}
+use Rattle.euler_kill.proofs.KemrFound.{IsOnBothSides, kemr-is, placed_with}
+use Rattle.euler_kill.proofs.KemrReached.{kemr-counts}
 use Rattle.euler_kill.proofs.kemr.kemr_need.Goals as goal
 
 pub overflow_add-result : goal.overflow_add-result
 overflow_add-result g c =
     let s = c.args.store.now.state in
-    let ring = few-ring s c.blocks-2.ensures.ascending c.blocks-2.ensures.range c.blocks-2.ensures.hosted (ring_at s.map c.args.fin) c.in_ok-u.ensures.ring.ring in
+    let ring = few-ring s c.blocks-blocks.ensures.ascending c.blocks-blocks.ensures.range c.blocks-blocks.ensures.hosted (ring_at s.map c.args.fin) c.in_ok-u.ensures.ring.ring in
     omega (arith, ring, c.ring_len-ring.ensures)
 
 pub overflow_add-result-2 : goal.overflow_add-result-2
 overflow_add-result-2 g c =
     let s = c.args.store.now.state in
-    let ring = few-ring s c.blocks-2.ensures.ascending c.blocks-2.ensures.range c.blocks-2.ensures.hosted (ring_at s.map c.args.fin) c.in_ok-u.ensures.ring.ring in
+    let ring = few-ring s c.blocks-blocks.ensures.ascending c.blocks-blocks.ensures.range c.blocks-blocks.ensures.hosted (ring_at s.map c.args.fin) c.in_ok-u.ensures.ring.ring in
     omega (arith, ring, c.ring_len-ring.ensures, c.count_dead-dead.ensures.few)
 
 pub returns : goal.returns

@@ -1,7 +1,6 @@
 use Rattle.std.proofs.Common.{length, sym, ap, ◌∙◌}
 use Rattle.solid_calls.specs.LinkedRings.{ring_at}
-use Rattle.euler_kill.proofs.KevFound.{has-next}
-use Rattle.euler_kill.proofs.KevNeed.{kev-needs, kev-not_strut}
+use Rattle.euler_kill.proofs.KevFound.{has-next, kev-needs, kev-not_strut}
 use Rattle.solid_edits.specs.Deaths.{with_attributes}
 use Rattle.euler_kill.proofs.kev.kev_need.Goals as goal
 

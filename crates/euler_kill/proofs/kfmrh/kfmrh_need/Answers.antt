@@ -1,14 +1,14 @@
 use Rattle.std.proofs.Common.{rules, arith}
 use Rattle.solid_model.specs.Items.{item_at}
 use Rattle.solid_model.specs.Shapes.{shape_of}
-use Rattle.solid_sound.proofs.KeptRings.{asked_face}
-use Rattle.euler_kill.proofs.KfmrhRoom.{face-deaths}
+use Rattle.solid_sound.proofs.rows.KeptRings.{asked_face}
+use Rattle.euler_kill.proofs.KfmrhFound.{face-deaths}
 use Rattle.solid_calls.proofs.Sizes.{few-attributes}
 use Rattle.euler_kill.proofs.kfmrh.kfmrh_need.Goals as goal
 
 pub overflow_add-result : goal.overflow_add-result
 overflow_add-result g c =
-    let few = few-attributes c.args.store.now.state c.blocks-2.ensures.ascending c.blocks-2.ensures.range c.blocks-2.ensures.hosted c.args.kill in
+    let few = few-attributes c.args.store.now.state c.blocks-blocks.ensures.ascending c.blocks-blocks.ensures.range c.blocks-blocks.ensures.hosted c.args.kill in
     omega (arith, few, c.count_attributes-attributes.ensures)
 
 pub returns : goal.returns

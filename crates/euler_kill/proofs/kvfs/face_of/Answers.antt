@@ -3,7 +3,8 @@ use Rattle.std.specs.Prelude.{Contains}
 use Rattle.pk_base.specs.declared.tag.Tag.{Tag}
 use Rattle.pk_base.specs.declared.entity.Entity.{Entity}
 use Rattle.pk_base.specs.declared.entity.Entity.TheVariants as entity
-use Rattle.solid_sound.proofs.Lists.{contains_first, contains_later, contains_cases, same_itself}
+use Rattle.solid_sound.proofs.lists.Neighbours.{same_itself}
+use Rattle.list_facts.proofs.Elements.{Contains-first, Contains-later, Contains-cases}
 use Rattle.euler_kill.proofs.KidsFound.{IsKid, face-of_kid, walked-are, are-walked}
 use Rattle.euler_kill.proofs.kvfs.face_of.Goals as goal
 
@@ -21,7 +22,7 @@ pub returns-in-Face : goal.returns-in-Face
 returns-in-Face g c =
     let m = c.args.store.now.state.map in
     let tag = c.in-Some.tag in
-    let kid = c.loop-tag.invariant.kids tag c.in-Some.kid.now (subst (λ (ps : List (Tag × Entity)). Contains ps (tag, c.in-Some.kid.now)) (sym c.in-Some.ensures.some) (contains_first _ c.next.new.self)) in
+    let kid = c.loop-tag.invariant.kids tag c.in-Some.kid.now (subst (λ (ps : List (Tag × Entity)). Contains ps (tag, c.in-Some.kid.now)) (sym c.in-Some.ensures.some) (Contains-first _ c.next.new.self)) in
     let found = face-of_kid m c.args.shell tag c.in-Face.shell c.in-Face.outer (subst (IsKid m (Some c.args.shell) tag) c.in-Face.is kid) in
     (c.in-Face.outer, found)
 
@@ -32,13 +33,13 @@ loop-tag-preserved g c =
     let rest = c.next.new.self in
     let was = c.loop-tag.invariant.face in
     record {
-      kids = λ t e k. c.loop-tag.invariant.kids t e (subst (λ (ps : List (Tag × Entity)). Contains ps (t, e)) (sym c.in-Some.ensures.some) (contains_later (tag, c.in-Some.kid.now) rest (t, e) k));
+      kids = λ t e k. c.loop-tag.invariant.kids t e (subst (λ (ps : List (Tag × Entity)). Contains ps (t, e)) (sym c.in-Some.ensures.some) (Contains-later (tag, c.in-Some.kid.now) rest (t, e) k));
       face = (
         was.0,
         was.1,
         ⊎_elim {C = Contains rest (was.0, entity.Face shell was.1)}
             (λ (h : (tag, c.in-Some.kid.now) ≡ (was.0, entity.Face shell was.1)). absurd (c.in_default-kid.not-Face shell was.1 (ap (λ (p : Tag × Entity). p.1) h)))
             (λ r. r)
-            (contains_cases (tag, c.in-Some.kid.now) rest (was.0, entity.Face shell was.1) (subst (λ (ps : List (Tag × Entity)). Contains ps (was.0, entity.Face shell was.1)) c.in-Some.ensures.some was.2)),
+            (Contains-cases (tag, c.in-Some.kid.now) rest (was.0, entity.Face shell was.1) (subst (λ (ps : List (Tag × Entity)). Contains ps (was.0, entity.Face shell was.1)) c.in-Some.ensures.some was.2)),
       );
     }

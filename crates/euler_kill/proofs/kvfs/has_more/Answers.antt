@@ -2,9 +2,9 @@ use Rattle.std.proofs.Common.{sym, ap, ◌∙◌, arith}
 use Rattle.std.specs.Prelude.{nat_lt}
 use Rattle.solid_model.specs.Items.{item_at}
 use Rattle.solid_model.specs.Shapes.{shape_of}
-use Rattle.solid_sound.proofs.RowKeeps.{well-shape}
-use Rattle.euler_kill.proofs.KvfsCounts.{more-edges, more-faces, loops-tell}
-use Rattle.euler_kill.proofs.KvfsParts.{asked-body, face-there, item-found}
+use Rattle.solid_sound.proofs.rows.RowKeeps.{well-shape}
+use Rattle.solid_places.proofs.Read.{item-of}
+use Rattle.euler_kill.proofs.KvfsFound.{more-edges, more-faces, loops-tell, asked-body, face-there}
 use Rattle.euler_kill.proofs.kvfs.has_more.Goals as goal
 use Rattle.euler_kill.proofs.kvfs.has_more.Goals.{then-edges-gt0-via-then-edges-gt0, then-edges-gt0-via-else-edges-gt0+then-faces-gt1}
 
@@ -27,5 +27,5 @@ returns g c =
     let S = shape_of m in
     let is = asked-body c.args.body c.args.shell (item_at S c.args.body) c.requires.shell in
     ap (λ n. nat_lt 1 n) c.number_of_parts.ensures
-    ∙ loops-tell S c.args.body (well-shape m c.requires.sound) c.args.shell c.face_of-face.result c.face_of-face.ensures.0 is (item-found m c.face_of-face.result _ c.face_of-face.ensures.1)
+    ∙ loops-tell S c.args.body (well-shape m c.requires.sound) c.args.shell c.face_of-face.result c.face_of-face.ensures.0 is (item-of m c.face_of-face.result _ c.face_of-face.ensures.1)
     (omega (arith, c.if-edges-gt0.false, c.number_of_parts-edges.ensures)) (omega (arith, c.if-faces-gt1.false, c.number_of_parts-faces.ensures))

@@ -6,15 +6,16 @@ use Rattle.solid_model.specs.Deaths.{◌without◌}
 use Rattle.solid_model.specs.Links.{links}
 use Rattle.solid_model.specs.Owners.{all_in_body}
 use Rattle.solid_model.specs.Shapes.{shape_of}
-use Rattle.solid_sound.proofs.KeptDeaths.{kvfs-keeps}
-use Rattle.solid_sound.proofs.RowKeeps.{well-shape}
+use Rattle.solid_sound.proofs.rows.KeptDeaths.{kvfs-keeps}
+use Rattle.solid_sound.proofs.rows.RowKeeps.{well-shape}
 use Rattle.solid_calls.specs.Room.{HasRoomForThese, PutsAmong}
 use Rattle.solid_calls.proofs.Room.{puts-wider, records-of, room-of_length, room-part}
 use Rattle.solid_edits.specs.BareParts.{tags_of_parts}
 use Rattle.solid_edits.specs.Deaths.{Kills, with_attributes}
 use Rattle.solid_edits.proofs.Going.{done}
 use Rattle.solid_edits.proofs.Hosted.{hosted-seen}
-use Rattle.euler_kill.proofs.KvfsReached.{KillsBody, body-killed, dead-among, has-parts, kills-body, parts-seen}
+use Rattle.euler_kill.proofs.KvfsReached.{KillsBody, body-killed, kills-body}
+use Rattle.euler_kill.proofs.KvfsDone.{dead-among, has-parts, parts-seen}
 use Rattle.euler_kill.proofs.kvfs.kvfs_do.Goals as goal
 
 pub kill_all-requires-clause-owned : goal.kill_all-requires-clause-owned
@@ -23,7 +24,7 @@ kill_all-requires-clause-owned g c =
     let p = c.parts_of-parts.result in
     let are = parts-seen _ s0 c.view-2.ensures p c.parts_of-parts.ensures.parts in
     let parts = has-parts s0.state.map c.requires.sound p are in
-    let hosted = hosted-seen _ s0 c.view.ensures c.blocks-2.ensures.hosted in
+    let hosted = hosted-seen _ s0 c.view.ensures c.blocks-blocks.ensures.hosted in
     subst (AllByRecursion (λ t. IsTrue (owns s0.state.blocks t))) (sym (c.as_slice.ensures ∙ c.tags_of.ensures)) (
       (hosted p.body _ parts.body_is).owned,
       (

@@ -3,8 +3,7 @@ use Rattle.solid_model.specs.Owners.{all_in_body}
 use Rattle.solid_model.specs.Shapes.{shape_of}
 use Rattle.solid_edits.specs.BareParts.{tags_of_parts}
 use Rattle.solid_edits.specs.Deaths.{with_attributes}
-use Rattle.euler_kill.proofs.KvfsParts.{IsBare, is-bare}
-use Rattle.euler_kill.proofs.KvfsRoom.{few-in_body}
+use Rattle.euler_kill.proofs.KvfsFound.{IsBare, is-bare, few-in_body}
 use Rattle.euler_kill.proofs.kvfs.kvfs_need.Goals as goal
 
 pub returns : goal.returns

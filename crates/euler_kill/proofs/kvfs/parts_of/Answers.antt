@@ -4,7 +4,7 @@ use Rattle.std.specs.Prelude.{IsSome}
 use Rattle.pk_base.specs.declared.tag.Tag.{Tag}
 use Rattle.solid_model.specs.Shapes.{shape_of}
 use Rattle.solid_edits.specs.BareParts.{lone_vertex}
-use Rattle.euler_kill.proofs.KvfsParts.{face-there, lone-there, same-vertex}
+use Rattle.euler_kill.proofs.KvfsFound.{face-there, lone-there, same-vertex}
 use Rattle.euler_kill.proofs.KvfsReached.{face-read, kills-body}
 use Rattle.euler_kill.proofs.kvfs.parts_of.Goals as goal
 

@@ -1,12 +1,13 @@
 use Rattle.std.proofs.Common.{[], ◌∷◌, sym, ap, subst, ◌∙◌, arith}
-use Rattle.solid_sound.proofs.KeptRings.{ringmove-keeps}
-use Rattle.solid_sound.proofs.RowKeeps.{well-shape}
+use Rattle.solid_sound.proofs.rows.KeptRings.{ringmove-keeps}
+use Rattle.solid_sound.proofs.rows.RowKeeps.{well-shape}
 use Rattle.solid_model.specs.Shapes.{shape_of}
 use Rattle.solid_edits.specs.Faces.{IsLoop}
 use Rattle.solid_edits.proofs.Going.{done}
 use Rattle.solid_edits.proofs.Hosted.{hosted-seen}
 use Rattle.solid_calls.proofs.Room.{records-of}
-use Rattle.euler_kill.proofs.RingMoveReached.{moves, ring-has, face-has, ring-moved}
+use Rattle.euler_kill.proofs.RingMoveFound.{moves}
+use Rattle.euler_kill.proofs.RingMoveReached.{ring-has, face-has, ring-moved}
 use Rattle.euler_kill.proofs.ringmove.ringmove_do.Goals as goal
 
 pub give_loop-requires-clause-is : goal.give_loop-requires-clause-is
@@ -19,13 +20,13 @@ pub give_loop-requires-clause-owned : goal.give_loop-requires-clause-owned
 give_loop-requires-clause-owned g c =
     let m = c.args.rec.now.store.now.state.map in
     let x = moves (shape_of m) c.args.ring c.args.to c.requires.goes in
-    (hosted-seen _ _ c.view.ensures c.blocks-2.ensures.hosted c.args.ring _ (ring-has m c.requires.sound c.args.ring c.args.to x)).owned
+    (hosted-seen _ _ c.view.ensures c.blocks-blocks.ensures.hosted c.args.ring _ (ring-has m c.requires.sound c.args.ring c.args.to x)).owned
 
 pub give_loop-requires-clause-face : goal.give_loop-requires-clause-face
 give_loop-requires-clause-face g c =
     let m = c.args.rec.now.store.now.state.map in
     let x = moves (shape_of m) c.args.ring c.args.to c.requires.goes in
-    (hosted-seen _ _ c.view.ensures c.blocks-2.ensures.hosted c.args.to _ (face-has m c.requires.sound c.args.ring c.args.to x)).owned
+    (hosted-seen _ _ c.view.ensures c.blocks-blocks.ensures.hosted c.args.to _ (face-has m c.requires.sound c.args.ring c.args.to x)).owned
 
 pub returns-clause-done : goal.returns-clause-done
 returns-clause-done g c =

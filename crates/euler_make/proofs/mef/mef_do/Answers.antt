@@ -2,7 +2,7 @@
 use Rattle.std.proofs.Common.{refl}
 use Rattle.entity_store.specs.NextTags.{left}
 use Rattle.solid_edits.proofs.PlacedFins.{found_fin}
-use Rattle.euler_make.proofs.MefRoom.{mef-goes}
+use Rattle.euler_make.proofs.MefFound.{mef-goes}
 use Rattle.euler_make.proofs.MefDone.{asks-parted, first-face_owned, first-owned, first-ring, first-room, four-room, label-other, label-owned, label-ring, label-room, mef-done, parted-room, second-face_owned, second-owned, second-ring, second-room}
 use Rattle.euler_make.proofs.mef.mef_do.Goals as goal
 
@@ -15,7 +15,7 @@ put_parts-requires g' c =
     let u = found_fin a.state.map f c.in-Ok.u in
     let w = found_fin a.state.map g c.in-Ok-fin_at.v in
     let p = c.take_parts-parts.result in
-    let G = mef-goes s a c.view-store.ensures f g c.args.tags.now c.args.out.now u w p.face p.loop_ p.edge p.x p.y (left c.take_parts-parts.new.tags) c.blocks-2.ensures.hosted c.requires.may c.requires.tags c.in-Ok.ensures.found c.in-Ok-fin_at.ensures.found refl c.in-Ok.ensures.ring c.take_parts-parts.ensures.parts in
+    let G = mef-goes s a c.view-store.ensures f g c.args.tags.now c.args.out.now u w p.face p.loop_ p.edge p.x p.y (left c.take_parts-parts.new.tags) c.blocks-blocks.ensures.hosted c.requires.may c.requires.tags c.in-Ok.ensures.found c.in-Ok-fin_at.ensures.found refl c.in-Ok.ensures.ring c.take_parts-parts.ensures.parts in
     record {
       owned = G.owned;
       known = (G.known.0, (G.known.1.0, (G.known.1.1.0, tt)));
@@ -35,7 +35,7 @@ split_ring-requires g' c =
     let u = found_fin a.state.map f c.in-Ok.u in
     let w = found_fin a.state.map g c.in-Ok-fin_at.v in
     let p = c.take_parts-parts.result in
-    let G = mef-goes s a c.view-store.ensures f g c.args.tags.now c.args.out.now u w p.face p.loop_ p.edge p.x p.y (left c.take_parts-parts.new.tags) c.blocks-2.ensures.hosted c.requires.may c.requires.tags c.in-Ok.ensures.found c.in-Ok-fin_at.ensures.found refl c.in-Ok.ensures.ring c.take_parts-parts.ensures.parts in
+    let G = mef-goes s a c.view-store.ensures f g c.args.tags.now c.args.out.now u w p.face p.loop_ p.edge p.x p.y (left c.take_parts-parts.new.tags) c.blocks-blocks.ensures.hosted c.requires.may c.requires.tags c.in-Ok.ensures.found c.in-Ok-fin_at.ensures.found refl c.in-Ok.ensures.ring c.take_parts-parts.ensures.parts in
     let asks = asks-parted s f g u w.vertex _ p.face p.loop_ p.edge p.x p.y G c.put_parts.new.rec.store.now c.put_parts.ensures.state c.put_parts.ensures.puts in
     record {
       ring = asks.ring;
@@ -56,7 +56,7 @@ relabel-requires g' c =
     let u = found_fin a.state.map f c.in-Ok.u in
     let w = found_fin a.state.map g c.in-Ok-fin_at.v in
     let p = c.take_parts-parts.result in
-    let G = mef-goes s a c.view-store.ensures f g c.args.tags.now c.args.out.now u w p.face p.loop_ p.edge p.x p.y (left c.take_parts-parts.new.tags) c.blocks-2.ensures.hosted c.requires.may c.requires.tags c.in-Ok.ensures.found c.in-Ok-fin_at.ensures.found refl c.in-Ok.ensures.ring c.take_parts-parts.ensures.parts in
+    let G = mef-goes s a c.view-store.ensures f g c.args.tags.now c.args.out.now u w p.face p.loop_ p.edge p.x p.y (left c.take_parts-parts.new.tags) c.blocks-blocks.ensures.hosted c.requires.may c.requires.tags c.in-Ok.ensures.found c.in-Ok-fin_at.ensures.found refl c.in-Ok.ensures.ring c.take_parts-parts.ensures.parts in
     record {
       ring = label-ring s f g u w.vertex _ p.face p.loop_ p.edge p.x p.y G c.put_parts.new.rec.store.now c.put_parts.ensures.state c.put_parts.ensures.puts c.split_ring.new.rec.store.now c.split_ring.ensures.links c.split_ring.ensures.state c.split_ring.ensures.puts;
       owned = label-owned s f g u w.vertex _ p.face p.loop_ p.edge p.x p.y G c.put_parts.new.rec.store.now c.put_parts.ensures.state c.put_parts.ensures.puts c.split_ring.new.rec.store.now c.split_ring.ensures.links c.split_ring.ensures.state c.split_ring.ensures.puts;
@@ -73,7 +73,7 @@ put_loop-requires g' c =
     let u = found_fin a.state.map f c.in-Ok.u in
     let w = found_fin a.state.map g c.in-Ok-fin_at.v in
     let p = c.take_parts-parts.result in
-    let G = mef-goes s a c.view-store.ensures f g c.args.tags.now c.args.out.now u w p.face p.loop_ p.edge p.x p.y (left c.take_parts-parts.new.tags) c.blocks-2.ensures.hosted c.requires.may c.requires.tags c.in-Ok.ensures.found c.in-Ok-fin_at.ensures.found refl c.in-Ok.ensures.ring c.take_parts-parts.ensures.parts in
+    let G = mef-goes s a c.view-store.ensures f g c.args.tags.now c.args.out.now u w p.face p.loop_ p.edge p.x p.y (left c.take_parts-parts.new.tags) c.blocks-blocks.ensures.hosted c.requires.may c.requires.tags c.in-Ok.ensures.found c.in-Ok-fin_at.ensures.found refl c.in-Ok.ensures.ring c.take_parts-parts.ensures.parts in
     record {
       ring = first-ring s f g u w.vertex _ p.face p.loop_ p.edge p.x p.y G c.put_parts.new.rec.store.now c.put_parts.ensures.state c.put_parts.ensures.puts c.split_ring.new.rec.store.now c.split_ring.ensures.links c.split_ring.ensures.state c.split_ring.ensures.puts c.relabel.new.rec.store.now c.relabel.ensures.labels c.relabel.ensures.state c.relabel.ensures.puts;
       owned = first-owned s f g u w.vertex _ p.face p.loop_ p.edge p.x p.y G c.put_parts.new.rec.store.now c.put_parts.ensures.state c.put_parts.ensures.puts c.split_ring.new.rec.store.now c.split_ring.ensures.links c.split_ring.ensures.state c.split_ring.ensures.puts c.relabel.new.rec.store.now c.relabel.ensures.labels c.relabel.ensures.state c.relabel.ensures.puts;
@@ -91,7 +91,7 @@ put_loop-requires-2 g' c =
     let u = found_fin a.state.map f c.in-Ok.u in
     let w = found_fin a.state.map g c.in-Ok-fin_at.v in
     let p = c.take_parts-parts.result in
-    let G = mef-goes s a c.view-store.ensures f g c.args.tags.now c.args.out.now u w p.face p.loop_ p.edge p.x p.y (left c.take_parts-parts.new.tags) c.blocks-2.ensures.hosted c.requires.may c.requires.tags c.in-Ok.ensures.found c.in-Ok-fin_at.ensures.found refl c.in-Ok.ensures.ring c.take_parts-parts.ensures.parts in
+    let G = mef-goes s a c.view-store.ensures f g c.args.tags.now c.args.out.now u w p.face p.loop_ p.edge p.x p.y (left c.take_parts-parts.new.tags) c.blocks-blocks.ensures.hosted c.requires.may c.requires.tags c.in-Ok.ensures.found c.in-Ok-fin_at.ensures.found refl c.in-Ok.ensures.ring c.take_parts-parts.ensures.parts in
     record {
       ring = second-ring s f g u w.vertex _ p.face p.loop_ p.edge p.x p.y G c.put_parts.new.rec.store.now c.put_parts.ensures.state c.put_parts.ensures.puts c.split_ring.new.rec.store.now c.split_ring.ensures.links c.split_ring.ensures.state c.split_ring.ensures.puts c.relabel.new.rec.store.now c.relabel.ensures.labels c.relabel.ensures.state c.relabel.ensures.puts c.put_loop.new.rec.store.now c.put_loop.ensures.state c.put_loop.ensures.puts;
       owned = second-owned s f g u w.vertex _ p.face p.loop_ p.edge p.x p.y G c.put_parts.new.rec.store.now c.put_parts.ensures.state c.put_parts.ensures.puts c.split_ring.new.rec.store.now c.split_ring.ensures.links c.split_ring.ensures.state c.split_ring.ensures.puts c.relabel.new.rec.store.now c.relabel.ensures.labels c.relabel.ensures.state c.relabel.ensures.puts c.put_loop.new.rec.store.now c.put_loop.ensures.state c.put_loop.ensures.puts;
@@ -109,5 +109,5 @@ returns-clause-done g' c =
     let u = found_fin a.state.map f c.in-Ok.u in
     let w = found_fin a.state.map g c.in-Ok-fin_at.v in
     let p = c.take_parts-parts.result in
-    let G = mef-goes s a c.view-store.ensures f g c.args.tags.now c.args.out.now u w p.face p.loop_ p.edge p.x p.y (left c.take_parts-parts.new.tags) c.blocks-2.ensures.hosted c.requires.may c.requires.tags c.in-Ok.ensures.found c.in-Ok-fin_at.ensures.found refl c.in-Ok.ensures.ring c.take_parts-parts.ensures.parts in
+    let G = mef-goes s a c.view-store.ensures f g c.args.tags.now c.args.out.now u w p.face p.loop_ p.edge p.x p.y (left c.take_parts-parts.new.tags) c.blocks-blocks.ensures.hosted c.requires.may c.requires.tags c.in-Ok.ensures.found c.in-Ok-fin_at.ensures.found refl c.in-Ok.ensures.ring c.take_parts-parts.ensures.parts in
     mef-done s f g u w.vertex _ p.face p.loop_ p.edge p.x p.y G c.put_parts.new.rec.store.now c.put_parts.ensures.state c.put_parts.ensures.puts c.split_ring.new.rec.store.now c.split_ring.ensures.links c.split_ring.ensures.state c.split_ring.ensures.puts c.relabel.new.rec.store.now c.relabel.ensures.labels c.relabel.ensures.state c.relabel.ensures.puts c.put_loop.new.rec.store.now c.put_loop.ensures.state c.put_loop.ensures.puts c.put_loop-2.new.rec.store.now c.put_loop-2.ensures.state c.put_loop-2.ensures.puts

@@ -7,6 +7,6 @@ use Rattle.euler_make.proofs.mef.mef_need.Goals as goal
 pub overflow_add-result : goal.overflow_add-result
 overflow_add-result g c =
     let s = c.args.store.now.state in
-    let few = few-ring s c.blocks-2.ensures.ascending c.blocks-2.ensures.range c.blocks-2.ensures.hosted (ring_at s.map c.args.from) c.in_ok-u.ensures.ring.ring in
+    let few = few-ring s c.blocks-blocks.ensures.ascending c.blocks-blocks.ensures.range c.blocks-blocks.ensures.hosted (ring_at s.map c.args.from) c.in_ok-u.ensures.ring.ring in
     let is = c.ring_len.ensures in
     omega (arith, few, is)

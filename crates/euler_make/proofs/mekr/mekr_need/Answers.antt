@@ -8,28 +8,30 @@ use Rattle.solid_model.specs.Rows.{Row}
 use Rattle.solid_model.specs.Shapes.{shape_of}
 use Rattle.solid_calls.specs.LinkedRings.{ring_of_any}
 use Rattle.solid_calls.proofs.Sizes.{few-attributes, few-ring}
-use Rattle.euler_make.proofs.MekrReached.{AreApart, AreEnds, end_with, mekr-counts, mekr-is, ring-of_any}
+use Rattle.solid_calls.proofs.LinkedRings.{any_ring}
+use Rattle.euler_make.proofs.MekrFound.{AreApart, AreEnds, end_with, mekr-is}
+use Rattle.euler_make.proofs.MekrReached.{mekr-counts}
 use Rattle.euler_make.proofs.mekr.mekr_need.Goals as goal
 
 pub overflow_add-result : goal.overflow_add-result
 overflow_add-result g c =
     let s = c.args.store.now.state in
-    let kept = few-ring s c.blocks-2.ensures.ascending c.blocks-2.ensures.range c.blocks-2.ensures.hosted (ring_of_any s.map c.in_ok-u.u.first) (ring-of_any s.map c.in_ok-u.u.first c.in_ok-u.ensures.ring) in
+    let kept = few-ring s c.blocks-blocks.ensures.ascending c.blocks-blocks.ensures.range c.blocks-blocks.ensures.hosted (ring_of_any s.map c.in_ok-u.u.first) (any_ring s.map c.in_ok-u.u.first c.in_ok-u.ensures.ring) in
     omega (arith, kept, c.len_of_any-kept.ensures)
 
 pub overflow_add-result-2 : goal.overflow_add-result-2
 overflow_add-result-2 g c =
     let s = c.args.store.now.state in
-    let kept = few-ring s c.blocks-2.ensures.ascending c.blocks-2.ensures.range c.blocks-2.ensures.hosted (ring_of_any s.map c.in_ok-u.u.first) (ring-of_any s.map c.in_ok-u.u.first c.in_ok-u.ensures.ring) in
-    let joined = few-ring s c.blocks-2.ensures.ascending c.blocks-2.ensures.range c.blocks-2.ensures.hosted (ring_of_any s.map c.in_ok-v.v.first) (ring-of_any s.map c.in_ok-v.v.first c.in_ok-v.ensures.ring) in
+    let kept = few-ring s c.blocks-blocks.ensures.ascending c.blocks-blocks.ensures.range c.blocks-blocks.ensures.hosted (ring_of_any s.map c.in_ok-u.u.first) (any_ring s.map c.in_ok-u.u.first c.in_ok-u.ensures.ring) in
+    let joined = few-ring s c.blocks-blocks.ensures.ascending c.blocks-blocks.ensures.range c.blocks-blocks.ensures.hosted (ring_of_any s.map c.in_ok-v.v.first) (any_ring s.map c.in_ok-v.v.first c.in_ok-v.ensures.ring) in
     omega (arith, kept, joined, c.len_of_any-kept.ensures, c.len_of_any-joined.ensures)
 
 pub overflow_add-result-3 : goal.overflow_add-result-3
 overflow_add-result-3 g c =
     let s = c.args.store.now.state in
-    let kept = few-ring s c.blocks-2.ensures.ascending c.blocks-2.ensures.range c.blocks-2.ensures.hosted (ring_of_any s.map c.in_ok-u.u.first) (ring-of_any s.map c.in_ok-u.u.first c.in_ok-u.ensures.ring) in
-    let joined = few-ring s c.blocks-2.ensures.ascending c.blocks-2.ensures.range c.blocks-2.ensures.hosted (ring_of_any s.map c.in_ok-v.v.first) (ring-of_any s.map c.in_ok-v.v.first c.in_ok-v.ensures.ring) in
-    let dead = few-attributes s c.blocks-2.ensures.ascending c.blocks-2.ensures.range c.blocks-2.ensures.hosted c.in_ok-v.v.loop_ in
+    let kept = few-ring s c.blocks-blocks.ensures.ascending c.blocks-blocks.ensures.range c.blocks-blocks.ensures.hosted (ring_of_any s.map c.in_ok-u.u.first) (any_ring s.map c.in_ok-u.u.first c.in_ok-u.ensures.ring) in
+    let joined = few-ring s c.blocks-blocks.ensures.ascending c.blocks-blocks.ensures.range c.blocks-blocks.ensures.hosted (ring_of_any s.map c.in_ok-v.v.first) (any_ring s.map c.in_ok-v.v.first c.in_ok-v.ensures.ring) in
+    let dead = few-attributes s c.blocks-blocks.ensures.ascending c.blocks-blocks.ensures.range c.blocks-blocks.ensures.hosted c.in_ok-v.v.loop_ in
     omega (arith, kept, joined, dead, c.len_of_any-kept.ensures, c.len_of_any-joined.ensures, c.count_attributes-dead.ensures)
 
 pub returns : goal.returns

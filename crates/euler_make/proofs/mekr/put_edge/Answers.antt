@@ -1,7 +1,7 @@
 use Rattle.std.proofs.Common.{[], ◌∷◌, Some}
 use Rattle.pk_base.specs.declared.entity.Entity.TheVariants as entity
-use Rattle.solid_sound.proofs.Lists.{contains_first, contains_later}
 use Rattle.solid_edits.proofs.Stages.{stage-none, stage-put, stage-room_one}
+use Rattle.list_facts.proofs.Elements.{Contains-first, Contains-later}
 use Rattle.euler_make.proofs.mekr.put_edge.Goals as goal
 
 pub put-requires-clause-room : goal.put-requires-clause-room
@@ -9,7 +9,7 @@ put-requires-clause-room g c =
     let s0 = c.args.rec.now.store.now in
     let new = c.args.new.now in
     let ts = new.edge ∷ new.fin ∷ new.mate ∷ [] in
-    stage-room_one ts s0 s0 new.edge c.requires.room (stage-none ts s0) (contains_first new.edge (new.fin ∷ new.mate ∷ []))
+    stage-room_one ts s0 s0 new.edge c.requires.room (stage-none ts s0) (Contains-first new.edge (new.fin ∷ new.mate ∷ []))
 
 pub put-requires-2-clause-room : goal.put-requires-2-clause-room
 put-requires-2-clause-room g c =
@@ -18,8 +18,8 @@ put-requires-2-clause-room g c =
     let new = c.args.new.now in
     let end = c.args.end.now in
     let ts = new.edge ∷ new.fin ∷ new.mate ∷ [] in
-    let has_edge = contains_first new.edge (new.fin ∷ new.mate ∷ []) in
-    let has_fin = contains_later new.edge (new.fin ∷ new.mate ∷ []) new.fin (contains_first new.fin (new.mate ∷ [])) in
+    let has_edge = Contains-first new.edge (new.fin ∷ new.mate ∷ []) in
+    let has_fin = Contains-later new.edge (new.fin ∷ new.mate ∷ []) new.fin (Contains-first new.fin (new.mate ∷ [])) in
     let one = stage-put ts s0 s0 s1 new.edge (Some (entity.Edge end.body new.fin)) (stage-none ts s0) has_edge c.put.ensures.state c.put.ensures.began c.put.ensures.recorded in
     stage-room_one ts s0 s1 new.fin c.requires.room one has_fin
 
@@ -31,9 +31,9 @@ put-requires-3-clause-room g c =
     let new = c.args.new.now in
     let end = c.args.end.now in
     let ts = new.edge ∷ new.fin ∷ new.mate ∷ [] in
-    let has_edge = contains_first new.edge (new.fin ∷ new.mate ∷ []) in
-    let has_fin = contains_later new.edge (new.fin ∷ new.mate ∷ []) new.fin (contains_first new.fin (new.mate ∷ [])) in
-    let has_mate = contains_later new.edge (new.fin ∷ new.mate ∷ []) new.mate (contains_later new.fin (new.mate ∷ []) new.mate (contains_first new.mate [])) in
+    let has_edge = Contains-first new.edge (new.fin ∷ new.mate ∷ []) in
+    let has_fin = Contains-later new.edge (new.fin ∷ new.mate ∷ []) new.fin (Contains-first new.fin (new.mate ∷ [])) in
+    let has_mate = Contains-later new.edge (new.fin ∷ new.mate ∷ []) new.mate (Contains-later new.fin (new.mate ∷ []) new.mate (Contains-first new.mate [])) in
     let one = stage-put ts s0 s0 s1 new.edge (Some (entity.Edge end.body new.fin)) (stage-none ts s0) has_edge c.put.ensures.state c.put.ensures.began c.put.ensures.recorded in
     let two = stage-put ts s0 s1 s2 new.fin (Some (entity.Fin end.loop_ new.fin new.fin new.mate new.edge end.vertex)) one has_fin c.put-2.ensures.state c.put-2.ensures.began c.put-2.ensures.recorded in
     stage-room_one ts s0 s2 new.mate c.requires.room two has_mate
@@ -47,9 +47,9 @@ returns-clause-puts g c =
     let new = c.args.new.now in
     let end = c.args.end.now in
     let ts = new.edge ∷ new.fin ∷ new.mate ∷ [] in
-    let has_edge = contains_first new.edge (new.fin ∷ new.mate ∷ []) in
-    let has_fin = contains_later new.edge (new.fin ∷ new.mate ∷ []) new.fin (contains_first new.fin (new.mate ∷ [])) in
-    let has_mate = contains_later new.edge (new.fin ∷ new.mate ∷ []) new.mate (contains_later new.fin (new.mate ∷ []) new.mate (contains_first new.mate [])) in
+    let has_edge = Contains-first new.edge (new.fin ∷ new.mate ∷ []) in
+    let has_fin = Contains-later new.edge (new.fin ∷ new.mate ∷ []) new.fin (Contains-first new.fin (new.mate ∷ [])) in
+    let has_mate = Contains-later new.edge (new.fin ∷ new.mate ∷ []) new.mate (Contains-later new.fin (new.mate ∷ []) new.mate (Contains-first new.mate [])) in
     let one = stage-put ts s0 s0 s1 new.edge (Some (entity.Edge end.body new.fin)) (stage-none ts s0) has_edge c.put.ensures.state c.put.ensures.began c.put.ensures.recorded in
     let two = stage-put ts s0 s1 s2 new.fin (Some (entity.Fin end.loop_ new.fin new.fin new.mate new.edge end.vertex)) one has_fin c.put-2.ensures.state c.put-2.ensures.began c.put-2.ensures.recorded in
     (stage-put ts s0 s2 s3 new.mate (Some (entity.Fin end.loop_ new.mate new.mate new.fin new.edge c.args.to)) two has_mate c.put-3.ensures.state c.put-3.ensures.began c.put-3.ensures.recorded).puts

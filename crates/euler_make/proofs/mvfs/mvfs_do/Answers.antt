@@ -1,9 +1,9 @@
 use Rattle.std.proofs.Common.{ap, ◌∙◌, arith}
 use Rattle.entity_store.specs.NextTags.{left}
-use Rattle.pk_model.proofs.TagLists.{ByRecursion-weaker}
-use Rattle.solid_sound.proofs.Asked.{free_item}
-use Rattle.solid_sound.proofs.KeptMvfs.{mvfs-keeps}
-use Rattle.solid_sound.proofs.RowKeeps.{well-shape}
+use Rattle.list_facts.proofs.Each.{ByRecursion-weaker}
+use Rattle.solid_sound.proofs.rows.Asked.{free_item}
+use Rattle.solid_sound.proofs.rows.KeptMvfs.{mvfs-keeps}
+use Rattle.solid_sound.proofs.rows.RowKeeps.{well-shape}
 use Rattle.solid_model.specs.Shapes.{shape_of}
 use Rattle.solid_edits.specs.BareParts.{tags_of_parts, with_bare_body}
 use Rattle.solid_edits.proofs.Going.{done}

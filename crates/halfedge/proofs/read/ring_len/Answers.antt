@@ -15,8 +15,8 @@ ring_next-here-requires-in-loop-fin g c = walk-live c.args.store.now.state.map c
 pub overflow_add-len : goal.overflow_add-len
 overflow_add-len g c =
     let other = other-tags c.loop-fin.here c.args.fin c.ne.result c.ne.ensures c.loop-fin-test.true in
-    let most = c.len.ensures in
-    let less = c.len.type_inv in
+    let most = c.len-len.ensures in
+    let less = c.len-len.type_inv in
     omega (arith, most, less, counted-fits c.args.store.now.state.map c.args.fin c.requires c.loop-fin.here c.ring_next-here-in-loop-fin.result c.loop-fin.len c.loop-fin.invariant other c.ring_next-here-in-loop-fin.ensures)
 
 pub loop-fin-smaller : goal.loop-fin-smaller

@@ -1,6 +1,6 @@
 use Rattle.std.proofs.Common.{◌≤◌, sym, subst, ◌∙◌, arith}
 use Rattle.std.specs.List.{AllByRecursion}
-use Rattle.pk_model.proofs.TagLists.{ByRecursion-get_or}
+use Rattle.list_facts.proofs.Each.{ByRecursion-get_or}
 use Rattle.partition.proofs.Live.{live_blocks-step, live_blocks-all, live_of-nothing}
 use Rattle.partition.proofs.copies.copy_entities.Goals as goal
 

@@ -4,7 +4,7 @@ use Rattle.pk_base.specs.declared.tag.Tag.{Tag}
 use Rattle.pk_base.specs.declared.entity.Entity.{Entity}
 use Rattle.pk_base.specs.declared.list.Lists.{Lists}
 use Rattle.pk_model.specs.Maps.{EntityMap, diff, gone_tags, tag_cmp}
-use Rattle.entity_store.proofs.Live.{true_of}
+use Rattle.pk_model.proofs.Keys.{true_from_T}
 use Rattle.partition.specs.MarkCopy.{mark_of}
 use Rattle.partition.proofs.ActReach.{from_entries-entries}
 use Rattle.partition.proofs.goes.go.Goals as goal
@@ -20,7 +20,7 @@ from_map m new from lists is differs = differs ∙ ap (λ (es : List (Tag × Ent
 pub difference-requires-clause-from : goal.difference-requires-clause-from
 difference-requires-clause-from g c =
     let m = c.args.store.now.state.map in
-    ap (is_sorted tag_cmp) (c.deref.ensures.value ∙ c.in_ok-from.ensures) ∙ true_of (is_sorted tag_cmp (entries m)) (entries_sorted m)
+    ap (is_sorted tag_cmp) (c.deref.ensures.value ∙ c.in_ok-from.ensures) ∙ true_from_T (is_sorted tag_cmp (entries m)) (entries_sorted m)
 
 pub restore-requires-clause-gone : goal.restore-requires-clause-gone
 restore-requires-clause-gone g c =

@@ -1,6 +1,6 @@
 use Rattle.std.proofs.Common.{◌<◌, map, length, ap, sym, subst, ◌∙◌, arith}
 use Rattle.std.proofs.lemmas.List.{length-map}
-use Rattle.pk_model.proofs.TagLists.{ByRecursion-get_or}
+use Rattle.list_facts.proofs.Each.{ByRecursion-get_or}
 use Rattle.pk_model.specs.Step.{after_deletion}
 use Rattle.partition.specs.MarkCopy.{IsCopy, mark_of}
 use Rattle.partition.proofs.MarkLists.{mapped_to-all, length-mapped_to, changed_more, ByRecursion-set}

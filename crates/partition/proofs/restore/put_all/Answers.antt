@@ -2,7 +2,7 @@ use Rattle.std.proofs.Common.{◌+◌, get_or, drop, sym, ap, subst, ◌∙◌, 
 use Rattle.std.proofs.lemmas.List.{drop_all}
 use Rattle.pk_base.specs.declared.entity.Entity.TheVariants.{Body}
 use Rattle.pk_base.specs.Blocks.{tag}
-use Rattle.pk_model.proofs.TagLists.{ByRecursion-get_or}
+use Rattle.list_facts.proofs.Each.{ByRecursion-get_or}
 use Rattle.entity_store.specs.Store.{IsHosted, Stored}
 use Rattle.partition.specs.Copies.{with_all}
 use Rattle.partition.proofs.Restored.{put_next}

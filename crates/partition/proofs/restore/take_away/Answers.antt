@@ -2,7 +2,7 @@ use Rattle.std.proofs.Common.{◌≡◌, ◌+◌, get_or, drop, sym, ap, subst, 
 use Rattle.std.proofs.lemmas.List.{drop_all}
 use Rattle.pk_base.specs.Blocks.{tag}
 use Rattle.pk_model.specs.Tags.{owns}
-use Rattle.pk_model.proofs.TagLists.{ByRecursion-get_or}
+use Rattle.list_facts.proofs.Each.{ByRecursion-get_or}
 use Rattle.entity_store.specs.Store.{Stored}
 use Rattle.partition.specs.Copies.{without_all}
 use Rattle.partition.proofs.Restored.{take_next}

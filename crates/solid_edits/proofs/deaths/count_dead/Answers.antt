@@ -8,14 +8,14 @@ pub overflow_add-count : goal.overflow_add-count
 overflow_add-count g c =
     let m = c.args.store.now.state.map in
     let t = tag_of c.args.tags.now c.loop-tag.tag-index in
-    let few : length (attributes_on m t) ≤ 16777152 = few-attributes c.args.store.now.state c.blocks-2.ensures.ascending c.blocks-2.ensures.range c.blocks-2.ensures.hosted t in
+    let few : length (attributes_on m t) ≤ 16777152 = few-attributes c.args.store.now.state c.blocks-blocks.ensures.ascending c.blocks-blocks.ensures.range c.blocks-blocks.ensures.hosted t in
     omega (arith, few, c.count_attributes-count.ensures, c.loop-tag.invariant.count, c.loop-tag.invariant.few, c.requires)
 
 pub loop-tag-preserved : goal.loop-tag-preserved
 loop-tag-preserved g c =
     let m = c.args.store.now.state.map in
     let t = tag_of c.args.tags.now c.loop-tag.tag-index in
-    let few : length (attributes_on m t) ≤ 16777152 = few-attributes c.args.store.now.state c.blocks-2.ensures.ascending c.blocks-2.ensures.range c.blocks-2.ensures.hosted t in
+    let few : length (attributes_on m t) ≤ 16777152 = few-attributes c.args.store.now.state c.blocks-blocks.ensures.ascending c.blocks-blocks.ensures.range c.blocks-blocks.ensures.hosted t in
     let more = first-more m c.args.tags.now c.loop-tag.tag-index (omega arith) in
     record {
       count = omega (arith, more, c.count_attributes-count.ensures, c.loop-tag.invariant.count);

@@ -1,7 +1,7 @@
 use Rattle.std.proofs.Common.{[]}
-use Rattle.solid_sound.proofs.Lists.{contains_first}
+use Rattle.list_facts.proofs.Elements.{Contains-first}
 use Rattle.solid_calls.proofs.Room.{puts-one}
 use Rattle.solid_edits.proofs.ring_loops.put_loop.Goals as goal
 
 pub returns-clause-puts : goal.returns-clause-puts
-returns-clause-puts g c = puts-one _ c.args.rec.now.store.now c.put.new.self.store.now c.args.loop_ _ (contains_first c.args.loop_ []) c.put.ensures.began c.put.ensures.recorded
+returns-clause-puts g c = puts-one _ c.args.rec.now.store.now c.put.new.self.store.now c.args.loop_ _ (Contains-first c.args.loop_ []) c.put.ensures.began c.put.ensures.recorded

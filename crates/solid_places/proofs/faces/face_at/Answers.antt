@@ -5,7 +5,7 @@ use Rattle.pk_base.specs.declared.refusal.Refusal.TheVariants.{WrongClass}
 use Rattle.solid_model.specs.Items.Item.{Face}
 use Rattle.solid_model.specs.Places.{as_face, face_at}
 use Rattle.solid_model.specs.Shapes.{shape_of}
-use Rattle.solid_sound.proofs.RowKeeps.{well-shape}
+use Rattle.solid_sound.proofs.rows.RowKeeps.{well-shape}
 use Rattle.solid_places.specs.Placed.{placed_by, as_placed_face}
 use Rattle.solid_places.proofs.Read.{found, refused, refused-class, answered, item-of}
 use Rattle.solid_places.proofs.Classes.{not_face}

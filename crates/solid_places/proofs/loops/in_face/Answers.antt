@@ -1,7 +1,7 @@
 use Rattle.std.proofs.Common.{◌∙◌, refl, sym, ap, subst}
 use Rattle.std.specs.Prelude.{IsOk}
 use Rattle.solid_model.specs.Shapes.{shape_of}
-use Rattle.solid_sound.proofs.RowKeeps.{well-shape}
+use Rattle.solid_sound.proofs.rows.RowKeeps.{well-shape}
 use Rattle.solid_places.specs.Placed.{placed_by, as_placed_face}
 use Rattle.solid_places.specs.declared.faces.PlacedFace.{PlacedFace}
 use Rattle.solid_places.specs.declared.loops.PlacedLoop.{PlacedLoop}

@@ -3,7 +3,7 @@ use Rattle.std.specs.Prelude.{IsOk}
 use Rattle.solid_model.specs.Shapes.{shape_of}
 use Rattle.solid_model.specs.Owners.{owner_in}
 use Rattle.solid_model.specs.Places.{outer_at}
-use Rattle.solid_sound.proofs.RowKeeps.{well-shape}
+use Rattle.solid_sound.proofs.rows.RowKeeps.{well-shape}
 use Rattle.solid_places.specs.Placed.{placed_by, as_placed_loop}
 use Rattle.solid_places.proofs.Read.{same_Ok}
 use Rattle.solid_places.proofs.Around.{loop-place, loop-body}

@@ -4,7 +4,7 @@ use Rattle.std.proofs.lemmas.Result.{err_from_is_err_and}
 use Rattle.pk_base.specs.declared.refusal.Refusal.TheVariants.{WrongClass}
 use Rattle.solid_model.specs.Places.{as_loop, loop_at}
 use Rattle.solid_model.specs.Shapes.{shape_of}
-use Rattle.solid_sound.proofs.RowKeeps.{well-shape}
+use Rattle.solid_sound.proofs.rows.RowKeeps.{well-shape}
 use Rattle.solid_places.specs.Placed.{placed_by, as_placed_loop}
 use Rattle.solid_places.proofs.Read.{found, refused, refused-class, answered, item-of}
 use Rattle.solid_places.proofs.Classes.{not_loop}

@@ -27,8 +27,8 @@ overflow_add-count g c =
     let m = c.args.store.now.state.map in
     let w = subst (λ (ks : List (Tag × Entity)). Walk c.args.class (kids_of m (Some c.args.owner)) c.loop-kid.count ks) c.in-Some.ensures.some c.loop-kid.invariant in
     let few = walk-fits m c.args.class (Some c.args.owner) _ _ _ w in
-    let len = c.len.ensures in
-    let fits = c.len.type_inv in
+    let len = c.len-len.ensures in
+    let fits = c.len-len.type_inv in
     omega (arith, few, len, fits)
 
 pub returns : goal.returns

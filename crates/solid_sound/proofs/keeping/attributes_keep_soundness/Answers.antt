@@ -1,7 +1,7 @@
 use Rattle.std.proofs.Common.{arith}
 use Rattle.pk_base.specs.declared.call.Call.TheVariants.{SetAttr, DropAttr}
-use Rattle.solid_sound.proofs.Asked.{keeps-by_row, free_at}
-use Rattle.solid_sound.proofs.KeptAttributes.{set-keeps, drop-keeps}
+use Rattle.solid_sound.proofs.rows.Asked.{keeps-by_row, free_at}
+use Rattle.solid_sound.proofs.rows.KeptAttributes.{set-keeps, drop-keeps}
 use Rattle.solid_sound.proofs.keeping.attributes_keep_soundness.Goals as goal
 
 pub returns-clause-set : goal.returns-clause-set

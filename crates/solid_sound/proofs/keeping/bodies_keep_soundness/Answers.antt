@@ -1,7 +1,7 @@
 use Rattle.pk_base.specs.declared.call.Call.TheVariants.{Mvfs, Kvfs, Delete}
-use Rattle.solid_sound.proofs.Asked.{keeps-by_row}
-use Rattle.solid_sound.proofs.KeptDeaths.{kvfs-keeps, delete-keeps}
-use Rattle.solid_sound.proofs.KeptMvfs.{mvfs-keeps}
+use Rattle.solid_sound.proofs.rows.Asked.{keeps-by_row}
+use Rattle.solid_sound.proofs.rows.KeptDeaths.{kvfs-keeps, delete-keeps}
+use Rattle.solid_sound.proofs.rows.KeptMvfs.{mvfs-keeps}
 use Rattle.solid_sound.proofs.keeping.bodies_keep_soundness.Goals as goal
 
 pub returns-clause-mvfs : goal.returns-clause-mvfs

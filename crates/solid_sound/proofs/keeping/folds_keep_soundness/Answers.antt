@@ -1,5 +1,5 @@
 use Rattle.pk_base.specs.declared.call.Call.TheVariants.{Lamina, Block, Prism, Sweep}
-use Rattle.solid_sound.proofs.EveryCall.{call-keeps}
+use Rattle.solid_sound.proofs.rows.EveryCall.{call-keeps}
 use Rattle.solid_sound.proofs.keeping.folds_keep_soundness.Goals as goal
 
 pub returns-clause-lamina : goal.returns-clause-lamina

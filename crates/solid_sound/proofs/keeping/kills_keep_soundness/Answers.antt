@@ -1,9 +1,9 @@
 use Rattle.std.proofs.Common.{arith}
 use Rattle.pk_base.specs.declared.call.Call.TheVariants.{Kev, Kef, Kemr}
-use Rattle.solid_sound.proofs.Asked.{keeps-by_row, free_at}
-use Rattle.solid_sound.proofs.KeptKev.{kev-keeps}
-use Rattle.solid_sound.proofs.KeptKef.{kef-keeps}
-use Rattle.solid_sound.proofs.KeptKemr.{kemr-keeps}
+use Rattle.solid_sound.proofs.rows.Asked.{keeps-by_row, free_at}
+use Rattle.solid_sound.proofs.rows.KeptKev.{kev-keeps}
+use Rattle.solid_sound.proofs.rows.KeptKef.{kef-keeps}
+use Rattle.solid_sound.proofs.rows.KeptKemr.{kemr-keeps}
 use Rattle.solid_sound.proofs.keeping.kills_keep_soundness.Goals as goal
 
 pub returns-clause-kev : goal.returns-clause-kev

@@ -1,8 +1,8 @@
 use Rattle.pk_base.specs.declared.call.Call.TheVariants.{Mev, Mef, Mekr}
-use Rattle.solid_sound.proofs.Asked.{keeps-by_row}
-use Rattle.solid_sound.proofs.KeptMev.{mev-keeps}
-use Rattle.solid_sound.proofs.KeptMef.{mef-keeps}
-use Rattle.solid_sound.proofs.KeptMekr.{mekr-keeps}
+use Rattle.solid_sound.proofs.rows.Asked.{keeps-by_row}
+use Rattle.solid_sound.proofs.rows.KeptMev.{mev-keeps}
+use Rattle.solid_sound.proofs.rows.KeptMef.{mef-keeps}
+use Rattle.solid_sound.proofs.rows.KeptMekr.{mekr-keeps}
 use Rattle.solid_sound.proofs.keeping.makes_keep_soundness.Goals as goal
 
 pub returns-clause-mev : goal.returns-clause-mev

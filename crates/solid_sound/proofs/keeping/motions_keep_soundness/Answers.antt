@@ -1,6 +1,6 @@
 use Rattle.pk_base.specs.declared.call.Call.TheVariants.{Move, Turn}
-use Rattle.solid_sound.proofs.Asked.{keeps-by_row}
-use Rattle.solid_sound.proofs.KeptMotions.{move-keeps, turn-keeps}
+use Rattle.solid_sound.proofs.rows.Asked.{keeps-by_row}
+use Rattle.solid_sound.proofs.rows.KeptMotions.{move-keeps, turn-keeps}
 use Rattle.solid_sound.proofs.keeping.motions_keep_soundness.Goals as goal
 
 pub returns-clause-moves : goal.returns-clause-moves

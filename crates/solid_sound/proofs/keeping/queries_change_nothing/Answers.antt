@@ -1,6 +1,6 @@
 use Rattle.pk_base.specs.declared.call.Call.TheVariants.{Ask, Kids, Ring, Counts, Bodies}
 use Rattle.solid_model.specs.Places.{live_at, body_at, loop_at}
-use Rattle.solid_sound.proofs.Queries.{tells-bind, told-same}
+use Rattle.solid_sound.proofs.rows.Queries.{tells-bind, told-same}
 use Rattle.solid_sound.proofs.keeping.queries_change_nothing.Goals as goal
 
 pub returns-clause-ask : goal.returns-clause-ask

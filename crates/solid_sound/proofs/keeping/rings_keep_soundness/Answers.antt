@@ -1,9 +1,9 @@
 use Rattle.std.proofs.Common.{arith}
 use Rattle.pk_base.specs.declared.call.Call.TheVariants.{Mfkrh, Kfmrh, RingMove}
-use Rattle.solid_sound.proofs.Asked.{keeps-by_row, free_at}
-use Rattle.solid_sound.proofs.KeptRings.{ringmove-keeps}
-use Rattle.solid_sound.proofs.KeptMfkrh.{mfkrh-keeps}
-use Rattle.solid_sound.proofs.KeptKfmrh.{kfmrh-keeps}
+use Rattle.solid_sound.proofs.rows.Asked.{keeps-by_row, free_at}
+use Rattle.solid_sound.proofs.rows.KeptRings.{ringmove-keeps}
+use Rattle.solid_sound.proofs.rows.KeptMfkrh.{mfkrh-keeps}
+use Rattle.solid_sound.proofs.rows.KeptKfmrh.{kfmrh-keeps}
 use Rattle.solid_sound.proofs.keeping.rings_keep_soundness.Goals as goal
 
 pub returns-clause-mfkrh : goal.returns-clause-mfkrh

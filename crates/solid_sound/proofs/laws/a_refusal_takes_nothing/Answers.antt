@@ -1,6 +1,6 @@
 use Rattle.solid_model.specs.Shapes.{shape_of}
 use Rattle.solid_model.specs.Calls.{row_of}
-use Rattle.solid_sound.proofs.Refused.{alike_by, free_by}
+use Rattle.solid_sound.proofs.rows.Refused.{alike_by, free_by}
 use Rattle.solid_sound.proofs.laws.a_refusal_takes_nothing.Goals as goal
 
 pub returns-clause-alike : goal.returns-clause-alike

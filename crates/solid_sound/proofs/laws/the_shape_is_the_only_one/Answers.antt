@@ -1,4 +1,4 @@
-use Rattle.solid_sound.proofs.OnlyShape.{only_shape, shape-read}
+use Rattle.solid_sound.proofs.shapes.OnlyShape.{only_shape, shape-read}
 use Rattle.solid_sound.proofs.laws.the_shape_is_the_only_one.Goals as goal
 
 pub returns-clause-only : goal.returns-clause-only

@@ -8,8 +8,9 @@ use Rattle.pk_base.specs.declared.refusal.Refusal.{Refusal}
 use Rattle.pk_model.specs.Tags.{spare_of, next_tags, tag_at, tags_of}
 use Rattle.pk_model.specs.State.{PartitionState}
 use Rattle.pk_model.specs.Step.{Reach, reach_of}
-use Rattle.pk_model.proofs.TagLists.{ByRecursion-append, tag_at-next_tags}
+use Rattle.pk_model.proofs.TagLists.{tag_at-next_tags}
 use Rattle.entity_store.specs.NextTags.{TagsView}
+use Rattle.list_facts.proofs.Each.{ByRecursion-append}
 use Rattle.partition.specs.Contents.{ContentsView, state_of}
 use Rattle.partition.specs.MarkCopy.{IsCopy}
 use Rattle.partition.specs.declared.marks.MarkCopy.{MarkCopy}

@@ -1,7 +1,7 @@
 use Rattle.std.proofs.Common.{◌≡◌, ◌≤◌, length, [], ◌∷◌, ◌++◌, ap, subst, arith, length-append}
 use Rattle.entity_store.specs.Store.{Stored}
 use Rattle.entity_store.proofs.FewBlocks.{few_blocks}
-use Rattle.pk_model.proofs.TagLists.{ByRecursion-weaker}
+use Rattle.list_facts.proofs.Each.{ByRecursion-weaker}
 use Rattle.partition.specs.MarkCopy.{IsCopy}
 use Rattle.partition.proofs.Draws.{IsCopy-more}
 use Rattle.partition.proofs.contents.Contents.take_block.Goals as goal

@@ -1,6 +1,6 @@
 use Rattle.std.proofs.Common.{ap, sym, ◌∙◌}
 use Rattle.std.specs.Prelude.{Some}
-use Rattle.session_table.proofs.Keeps.{none_not_some}
+use Rattle.std.proofs.lemmas.Option.{none-some}
 use Rattle.session_table.proofs.Telling.{empty_front, may_be_filled, replaced, one_front}
 use Rattle.session_table.proofs.table.SessionTable.put_in.Goals as goal
 
@@ -8,7 +8,7 @@ pub unreachable-requires : goal.unreachable-requires
 unreachable-requires g c =
     let mid = c.bring.new.self.place.me in let inf = c.bring.ensures.front in
     let none = empty_front g.X.Naming.named c.args.seat.now.place.me mid c.args.p c.bring.ensures.turned inf c.requires.seat.carries c.requires.empty in
-    none_not_some c.in-Some.field-0 (sym none ∙ one_front mid.1 c.args.p _ _ inf.is c.exchange.ensures.2 ∙ c.in-Some.is)
+    none-some c.in-Some.field-0 (sym none ∙ one_front mid.1 c.args.p _ _ inf.is c.exchange.ensures.2 ∙ c.in-Some.is)
 
 pub returns-clause-seat : goal.returns-clause-seat
 returns-clause-seat g c =

@@ -1,7 +1,7 @@
 use Rattle.std.proofs.Common.{◌≡◌, ◌∷◌, ap, sym, ◌∙◌}
 use Rattle.std.specs.Prelude.{Some, None}
 use Rattle.atomic_table.specs.Table.{rest}
-use Rattle.session_table.proofs.Keeps.{none_not_some}
+use Rattle.std.proofs.lemmas.Option.{none-some}
 use Rattle.session_table.proofs.Telling.{filled_front, noted_there, noted_held, may_be_empty, replaced, one_front}
 use Rattle.session_table.proofs.table.SessionTable.take_out.Goals as goal
 
@@ -9,7 +9,7 @@ pub unreachable-requires : goal.unreachable-requires
 unreachable-requires g c =
     let mid = c.bring.new.self.place.me in
     let has = filled_front g.X.Naming.named c.args.seat.now.place.me mid c.args.p c.bring.ensures.turned c.bring.ensures.front c.requires.seat.carries c.requires.filled in
-    none_not_some has.value (sym c.in-None.is ∙ one_front mid.1 c.args.p _ _ c.exchange.ensures.2 has.is)
+    none-some has.value (sym c.in-None.is ∙ one_front mid.1 c.args.p _ _ c.exchange.ensures.2 has.is)
 
 pub returns-clause-seat : goal.returns-clause-seat
 returns-clause-seat g c =

@@ -36,9 +36,9 @@ invariant_of-self g c =
     let first : 1 ≤ partition_of c.args.event = omega (arith, c.requires.partition) in
     let last : partition_of c.args.event ≤ length (map seen_as views) = omega (arith, count, c.requires.partition) in
     let is = sym c.index_mut-partition.ensures.value in
-    let happens = does_step K views blocks f.threads c.args.thread c.args.event p old within is named answer new c.do_event-answer.ensures in
+    let happens = does_step K views blocks f.threads c.args.thread c.args.event p old within is named answer new c.do_event-answer.ensures.does in
     let session = happens_kept K (g.met.K.Modeller g.world.𝓛 g.world.𝓜 g.world.𝓡 ((λ s x. x), (λ x. x), (λ x. x), λ x. x)).lawful (world_of views blocks f.threads) c.args.thread c.args.event c.self.invariant.session first last answer _ happens in
-    let numbers = numbers_stay K views blocks f.threads c.args.thread c.args.event p old within is answer new c.do_event-answer.ensures in
+    let numbers = numbers_stay K views blocks f.threads c.args.thread c.args.event p old within is answer new c.do_event-answer.ensures.does in
     record {
       numbers = numbers ∙ c.self.invariant.numbers ∙ ap (range_with_len 1) (sym (length-set views (p - 1) new));
       last = c.self.invariant.last;
@@ -54,7 +54,7 @@ returns-clause-happens g c =
     let count = ap (λ (w : WorldState). length w.partitions) c.self.view_is in
     let named = c.partition.ensures in
     let within : p - 1 < length views = omega (arith, count, length-map views seen_as, c.requires.partition, named) in
-    let happens = does_step K views (supply f.next f.last) f.threads c.args.thread c.args.event p c.index_mut-partition.result.now within (sym c.index_mut-partition.ensures.value) named c.do_event-answer.result c.do_event-answer.new.partition c.do_event-answer.ensures in
+    let happens = does_step K views (supply f.next f.last) f.threads c.args.thread c.args.event p c.index_mut-partition.result.now within (sym c.index_mut-partition.ensures.value) named c.do_event-answer.result c.do_event-answer.new.partition c.do_event-answer.ensures.does in
     let after = slice_set views (p - 1) c.do_event-answer.new.partition in
     subst (λ (w : WorldState). Happens K w c.args.thread c.args.event c.do_event-answer.result (world_of after (supply c.next_after-self-inside.result f.last) f.threads)) c.self.view_is
     (subst (λ (n : ℕ). Happens K (world_of views (supply f.next f.last) f.threads) c.args.thread c.args.event c.do_event-answer.result (world_of after (supply n f.last) f.threads)) (sym c.next_after-self-inside.ensures) happens)

@@ -1,0 +1,6 @@
+mod lists;
+mod messages;
+mod outside;
+mod refusals;
+mod stores;
+mod texts;

@@ -1,0 +1,4 @@
+-- In reading order.
+pub mod Elements
+pub mod Each
+pub mod Lengths

@@ -1,0 +1,3 @@
+//! Facts about lists alone, which proofs of several crates cite: `proofs/`. There is no running
+//! code.
+#![tactic(auto)]

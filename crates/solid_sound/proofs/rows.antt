@@ -1,0 +1,23 @@
+-- That each row keeps soundness, in reading order.
+pub mod RowKeeps
+pub mod Asked
+pub mod KeptAttributes
+pub mod KeptMotions
+pub mod KeptDeaths
+pub mod KeptMvfs
+pub mod KeptRings
+pub mod KeptMev
+pub mod KeptMef
+pub mod KeptMekr
+pub mod KeptMfkrh
+pub mod KeptKfmrh
+pub mod KeptKev
+pub mod KeptKef
+pub mod KeptKemr
+pub mod Refused
+pub mod Queries
+pub mod Taken
+pub mod Progress
+pub mod KeptFolds
+pub mod KeptPrism
+pub mod EveryCall
