@@ -1,6 +1,7 @@
 //! The messages of errors.
 use pk_outside::{Failed, ReadNo};
 use script_text::{Cause, ScriptNo};
+use session_words::WordsNo;
 use std::test::Fail;
 
 #[test]
@@ -27,6 +28,18 @@ fn a_bad_script_has_its_message(rt: HostRuntime) -> Result<(), Fail> {
     }
     let no = ScriptNo::NoMemory;
     assert_eq!(rt; format!(in alloc; "{no}")?.as_str(), "no memory");
+    Ok(())
+}
+
+#[test]
+fn bad_words_have_their_message(rt: HostRuntime) -> Result<(), Fail> {
+    let alloc = rt.alloc();
+    for (no, message) in [
+        (WordsNo::Bad, "bad words"),
+        (WordsNo::NoMemory, "no memory"),
+    ] {
+        assert_eq!(rt; format!(in alloc; "{no}")?.as_str(), message);
+    }
     Ok(())
 }
 
