@@ -1,8 +1,9 @@
 -- The two calls on attributes: their rows, the tag that is put, and what is done.
-use Rattle.std.proofs.Common.{◌≡◌, ◌≢◌, ◌≤◌, List, [], ◌∷◌, length, take, Option, Some, None, Result, Ok, Err, refl, sym, ap, subst, ◌∙◌, arith}
-use Rattle.std.specs.Prelude.{ℤ, option_map, IsOk, IsTrue}
+use Rattle.std.proofs.Common.{◌≡◌, ◌≢◌, ◌≤◌, List, [], ◌∷◌, ◌++◌, length, take, Option, Some, None, Result, Ok, Err, refl, sym, ap, subst, ◌∙◌, arith}
+use Rattle.std.specs.Prelude.{ℤ, option_map, Contains, IsOk, IsTrue}
 use Rattle.std.specs.FinMap.{entries, get}
 use Rattle.std.specs.List.{AllByRecursion}
+use Rattle.std.proofs.lemmas.List.Elements.{Contains-append_right}
 use Rattle.std.proofs.lemmas.Option.{same_Some}
 use Rattle.pk_base.specs.declared.tag.Tag.{Tag}
 use Rattle.pk_base.specs.declared.call.Call.TheVariants.{DropAttr, SetAttr}
@@ -18,9 +19,9 @@ use Rattle.list_facts.proofs.Each.{ByRecursion-weaker}
 use Rattle.solid_model.specs.DropAttr.{drop_attribute}
 use Rattle.solid_calls.proofs.RowKinds.{cost-changing, drop-changes}
 use Rattle.solid_calls.proofs.Kept.{done-sound}
-use Rattle.solid_model.specs.Euler.{cost_of}
-use Rattle.entity_store.specs.Recorder.{Records, began}
-use Rattle.entity_store.specs.Recording.{recorded_put}
+use Rattle.solid_model.specs.Rows.{cost_of, Row}
+use Rattle.entity_store.specs.Recorder.{began}
+use Rattle.entity_store.specs.Recording.{HasRoomFor, recorded_put}
 use Rattle.entity_store.specs.Store.{IsHosted, Stored, StoreView}
 use Rattle.solid_model.specs.Items.{Item, Shape, item_at, class_of_item, ◌with◌}
 use Rattle.solid_model.specs.Items.Item.{Body, Shell, Face, Loop, Fin, Edge, Vertex, Attr}
@@ -29,10 +30,10 @@ use Rattle.solid_model.specs.Deaths.{◌without◌}
 use Rattle.solid_model.specs.DropAttr.{dropped}
 use Rattle.solid_model.specs.Links.{links}
 use Rattle.solid_model.specs.Places.{asked, of_class}
-use Rattle.solid_model.specs.Rows.{Row}
 use Rattle.solid_model.specs.SetAttr.{set_in}
 use Rattle.solid_model.specs.Shapes.{item_of, shape_of}
-use Rattle.solid_model.specs.Sound.{IsSound}
+use Rattle.solid_model.specs.Room.{tags_put}
+use Rattle.solid_model.specs.Sound.{IsSound, optional}
 use Rattle.solid_sound.proofs.rows.Asked.{free_at, free_item}
 use Rattle.solid_sound.proofs.rows.KeptAttributes.{attribute_named-some, drop-keeps, set-keeps}
 use Rattle.list_facts.proofs.Elements.{Contains-first}
@@ -40,7 +41,7 @@ use Rattle.solid_sound.proofs.rows.RowKeeps.{IsWell, Keeps, well-shape}
 use Rattle.solid_calls.specs.Pairs.{HasDone, MayDo, reached, row_on}
 use Rattle.solid_calls.proofs.Deaths.{item-mapped}
 use Rattle.solid_calls.proofs.Represented.{represents-sound}
-use Rattle.solid_calls.proofs.Room.{puts-one, records-of}
+use Rattle.entity_store.proofs.Room.{puts-one, room-for_one}
 use Rattle.attributes.proofs.Found.{item-live}
 use Rattle.attributes.proofs.Written.{HasNoFin, drop-links, no_fin-attribute, no_fin-free, set-links, with_attribute}
 
@@ -158,10 +159,24 @@ pub record IsPut (old new : StoreView) (t : Tag) (to : Option Entity) : Type 0 w
 abbrev pub put_state : Stored → Tag → Tag → Name → ℤ → Stored
 put_state s t owner name value = record s { map = with_attribute s.map t owner name value }
 
-one_recorded : (old new : StoreView) (t : Tag) (to : Option Entity) → IsPut old new t to → Records 1 old new
-one_recorded old new t to put = records-of (t ∷ []) 1 old new (puts-one (t ∷ []) old new t (get old.state.map t) (Contains-first t []) put.began put.recorded) (omega arith)
+-- it is one of the tags that the call may put
+put_in : (S : Shape) (m : EntityMap) (a : Item) (tags : List Tag) (t : Tag) (o : Option Tag) → IsTagFor m tags o t → Contains (take (cost_of (set_in S a o)) tags ++ optional o) t
+put_in S m a tags t (Some u) h = subst (Contains (take 0 tags ++ u ∷ [])) (sym h) (Contains-append_right (take 0 tags) (u ∷ []) u (Contains-first u []))
+put_in S m a tags t None h = subst (λ ts. Contains (take 1 ts ++ []) t) (sym h.1) (Contains-first t [])
 
-pub set-done : (old new : StoreView) (owner : Tag) (name : Name) (value : ℤ) (tags : List Tag) (t : Tag) → MayDo old (SetAttr owner name value) → cost_of (row_on old.state.map (SetAttr owner name value)) ≤ length tags → AllByRecursion (λ u. get old.state.map u ≡ None) tags
+pub set-put : (m : EntityMap) (owner : Tag) (name : Name) (value : ℤ) (tags : List Tag) (t : Tag) → IsOk (row_on m (SetAttr owner name value)) → IsChosen m owner name tags t
+    → Contains (tags_put (shape_of m) (SetAttr owner name value) tags) t
+set-put m owner name value tags t goes chosen =
+    let S : Shape = shape_of m in
+    let a : Item = Attr owner name value in
+    subst (λ (r : Row). Contains (take (cost_of r) tags ++ optional (attribute_named S owner name)) t) (sym (set-row m owner name value chosen.named goes chosen.named_is))
+    (subst (λ o. Contains (take (cost_of (set_in S a chosen.named)) tags ++ optional o) t) (sym chosen.named_is) (put_in S m a tags t chosen.named chosen.is))
+
+pub set-room : (s : StoreView) (owner : Tag) (name : Name) (value : ℤ) (tags : List Tag) (t : Tag) → MayDo s (SetAttr owner name value) tags → IsChosen s.state.map owner name tags t → HasRoomFor s.recording t
+set-room s owner name value tags t may chosen =
+    room-for_one s.recording (tags_put (shape_of s.state.map) (SetAttr owner name value) tags) t may.room (set-put s.state.map owner name value tags t may.goes chosen)
+
+pub set-done : (old new : StoreView) (owner : Tag) (name : Name) (value : ℤ) (tags : List Tag) (t : Tag) → MayDo old (SetAttr owner name value) tags → cost_of (row_on old.state.map (SetAttr owner name value)) ≤ length tags → AllByRecursion (λ u. get old.state.map u ≡ None) tags
     → IsChosen old.state.map owner name tags t → IsPut old new t (Some (entity.Attr owner name value)) → HasDone old (SetAttr owner name value) tags new
 set-done old new owner name value tags t may enough free chosen put =
     let m : EntityMap = old.state.map in
@@ -177,7 +192,7 @@ set-done old new owner name value tags t may enough free chosen put =
     record {
       state = state;
       sound = done-sound old new (SetAttr owner name value) tags may.sound enough keeps state;
-      records = one_recorded old new t (Some (entity.Attr owner name value)) put;
+      puts = puts-one (tags_put S (SetAttr owner name value) tags) old new t (get m t) (set-put m owner name value tags t may.goes chosen) put.began put.recorded;
     }
 
 -- ---- what is put stands in an owned block
@@ -221,7 +236,17 @@ set-hosted s owner name value put tags t hosted sound goes chosen owned =
 kept_drop : (m : EntityMap) (owner t : Tag) → Keeps [] (dropped (shape_of m) owner (Some t)) → IsWell (shape_of m without t ∷ [])
 kept_drop m owner t k = k
 
-pub drop-done : (old new : StoreView) (owner : Tag) (name : Name) (t : Tag) → MayDo old (DropAttr owner name) → attribute_named (shape_of old.state.map) owner name ≡ Some t → IsPut old new t None → HasDone old (DropAttr owner name) [] new
+-- the attribute that dies is one of the tags that the call may put
+pub drop-put : (m : EntityMap) (owner : Tag) (name : Name) (t : Tag) → attribute_named (shape_of m) owner name ≡ Some t → Contains (tags_put (shape_of m) (DropAttr owner name) []) t
+drop-put m owner name t named =
+    let taken : List Tag = take (cost_of (row_on m (DropAttr owner name))) [] in
+    subst (λ o. Contains (taken ++ optional o) t) (sym named) (Contains-append_right taken (t ∷ []) t (Contains-first t []))
+
+pub drop-room : (s : StoreView) (owner : Tag) (name : Name) (t : Tag) → MayDo s (DropAttr owner name) [] → attribute_named (shape_of s.state.map) owner name ≡ Some t → HasRoomFor s.recording t
+drop-room s owner name t may named =
+    room-for_one s.recording (tags_put (shape_of s.state.map) (DropAttr owner name) []) t may.room (drop-put s.state.map owner name t named)
+
+pub drop-done : (old new : StoreView) (owner : Tag) (name : Name) (t : Tag) → MayDo old (DropAttr owner name) [] → attribute_named (shape_of old.state.map) owner name ≡ Some t → IsPut old new t None → HasDone old (DropAttr owner name) [] new
 drop-done old new owner name t may named put =
     let m : EntityMap = old.state.map in
     let S : Shape = shape_of m in
@@ -236,7 +261,7 @@ drop-done old new owner name t may named put =
     record {
       state = state;
       sound = done-sound old new (DropAttr owner name) [] may.sound none (drop-keeps S [] owner name well) state;
-      records = one_recorded old new t None put;
+      puts = puts-one (tags_put S (DropAttr owner name) []) old new t (get m t) (drop-put m owner name t named) put.began put.recorded;
     }
 
 -- ---- through a view of the store

@@ -14,11 +14,11 @@ use Rattle.entity_store.specs.Recording.{HasRoomFor}
 use Rattle.entity_store.specs.Store.{Stored, StoreView}
 use Rattle.entity_store.proofs.Ascending.{NoRepeats-filter}
 use Rattle.entity_store.proofs.FirstValues.{get_other, get_put}
-use Rattle.solid_sound.proofs.shapes.Found.{same_or_other}
+use Rattle.pk_base.proofs.Same.{same_or_other}
 use Rattle.list_facts.proofs.Elements.{not_in_nil, Contains-filter, filter_contains}
 use Rattle.solid_calls.specs.Attributes.{attributes_on, is_attribute_on, unless_on, DropsAttributes}
-use Rattle.solid_calls.specs.Room.{HasRoomForThese, PutsAmong}
-use Rattle.solid_calls.proofs.Room.{no_more-different, puts-one, puts-then, room-after, room-for_one}
+use Rattle.entity_store.specs.Room.{HasRoomForThese, PutsAmong}
+use Rattle.entity_store.proofs.Room.{no_more-different, puts-one, puts-then, room-after, room-for_one}
 use Rattle.solid_calls.proofs.Sizes.{apart-ascending}
 use Rattle.pk_model.proofs.Keys.{Contains-keys, TagsAscend-keys}
 use Rattle.attributes.proofs.Carried.{AllHosted, IsPut}

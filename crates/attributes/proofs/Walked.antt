@@ -9,7 +9,7 @@ use Rattle.std.proofs.lemmas.Bool.{true≢false}
 use Rattle.std.proofs.lemmas.List.Sums.{sum_by-cons}
 use Rattle.std.proofs.lemmas.List.Sorted.{Contains-permutation, IsPermutation-sym, sum_by-IsPermutation}
 use Rattle.std.proofs.lemmas.Option.{same_Some}
-use Rattle.pk_base.proofs.Same.{same_name-Decides}
+use Rattle.pk_base.proofs.Same.{same_name-Decides, same_itself, same_means}
 use Rattle.pk_base.specs.Entity.{owner_of, same_optional, same_tag}
 use Rattle.pk_base.specs.declared.tag.Tag.{Tag}
 use Rattle.pk_base.specs.declared.entity.Name.{Name}
@@ -18,7 +18,7 @@ use Rattle.pk_base.specs.declared.entity.Entity.TheVariants.{Body, Shell, Face, 
 use Rattle.pk_model.specs.Maps.{EntityMap}
 use Rattle.entity_store.specs.Kids.{kid_at, kids_among, kids_of}
 use Rattle.pk_model.proofs.Keys.{Contains-keys}
-use Rattle.solid_sound.proofs.lists.Neighbours.{one_if, same_itself, same_means}
+use Rattle.solid_model.proofs.lists.Neighbours.{one_if}
 use Rattle.solid_calls.specs.Attributes.{attributes_on, is_attribute_on}
 use Rattle.list_facts.proofs.Elements.{not_in_nil, Contains-filter, Contains-first, Contains-later, Contains-cases}
 use Rattle.attributes.specs.Entities.{is_attribute, is_named}

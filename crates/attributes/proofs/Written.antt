@@ -19,8 +19,8 @@ use Rattle.solid_model.specs.Rings.{is_among}
 use Rattle.solid_model.specs.Deaths.{dies_with, is_attribute_of, ◌without◌}
 use Rattle.solid_model.specs.Links.{links}
 use Rattle.solid_model.specs.Sound.{class_at}
-use Rattle.solid_sound.proofs.shapes.Found.{same_or_other}
-use Rattle.solid_sound.proofs.lists.Neighbours.{in-is_among, is_among-in, not_among}
+use Rattle.pk_base.proofs.Same.{same_or_other}
+use Rattle.solid_model.proofs.lists.Neighbours.{in-is_among, is_among-in, not_among}
 use Rattle.solid_sound.proofs.shapes.Lookups.{filter-kept, put-other}
 use Rattle.solid_sound.proofs.rows.RowKeeps.{IsWell}
 use Rattle.solid_calls.proofs.Represented.{Represents, Shows, shows-kept}

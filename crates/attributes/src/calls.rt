@@ -2,7 +2,7 @@
 ghost use Rattle.std.specs.Prelude.{◌≡◌, []};
 ghost use Rattle.pk_base.specs.declared.call.Call.TheVariants.{SetAttr, DropAttr};
 ghost use Rattle.entity_store.specs.NextTags.{left};
-ghost use Rattle.solid_model.specs.Euler.{cost_of};
+ghost use Rattle.solid_model.specs.Rows.{cost_of};
 ghost use Rattle.solid_model.specs.Sound.{IsSound};
 ghost use Rattle.solid_calls.specs.Pairs.{HasDone, HasTags, MayDo, NeedsAsRow, Takes, row_on};
 
@@ -55,7 +55,7 @@ pub fn set_do<L: Ledger>(
     out: &mut TagListBuilder,
     steps: &mut Steps<L>,
 )
-    requires may { MayDo rec.old.store.now (SetAttr owner name value) }
+    requires may { MayDo rec.old.store.now (SetAttr owner name value) (left tags.old) }
     requires tags { HasTags rec.old.store.now
         (cost_of (row_on rec.old.store.now.state.map (SetAttr owner name value)))
         tags.old out.old }
@@ -108,7 +108,7 @@ pub fn drop_need<L: Ledger>(
 ///
 /// `set_do` undoes it, but for the attribute's tag.
 pub fn drop_do<L: Ledger>(rec: &mut Recorder<'_>, owner: Tag, name: Name, steps: &mut Steps<L>)
-    requires { MayDo rec.old.store.now (DropAttr owner name) }
+    requires { MayDo rec.old.store.now (DropAttr owner name) [] }
     ensures done { HasDone rec.old.store.now (DropAttr owner name) [] rec.new.store.now }
     ensures same_store { rec.new.store.ghost_name ≡ rec.old.store.ghost_name }
 {

@@ -1,7 +1,7 @@
 //! The attributes that die with their owner.
 ghost use Rattle.std.specs.Prelude.{◌≡◌};
 ghost use Rattle.solid_calls.specs.Attributes.{DropsAttributes, attributes_on};
-ghost use Rattle.solid_calls.specs.Room.{HasRoomForThese, PutsAmong};
+ghost use Rattle.entity_store.specs.Room.{HasRoomForThese, PutsAmong};
 
 use crate::reads::one_attribute;
 use entity_store::{Recorder, Steps};

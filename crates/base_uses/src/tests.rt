@@ -1,3 +1,4 @@
+mod links;
 mod lists;
 mod messages;
 mod outside;

@@ -1,10 +1,13 @@
 pub mod Slots
 pub mod MapOf
 pub mod Places
+pub mod OwnerLinks
 pub mod KeptSlots
 pub mod Live
+pub mod Children
 pub mod FewBlocks
 pub mod Ascending
 pub mod NetChanges
 pub mod FirstValues
 pub mod Recorded
+pub mod Room

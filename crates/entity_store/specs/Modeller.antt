@@ -15,13 +15,13 @@ use Rattle.entity_store.specs.Recording.{room_left}
 use Rattle.entity_store.specs.Recorder.{Records}
 use Rattle.entity_store.specs.declared.modeller.Need.{Need}
 
--- the call is not refused, whatever tags it is given; it takes so many of them, and writes and
--- lists no more than it names
+-- the call is not refused, whatever tags it is given; and what is named is how many of them it
+-- takes, how many tags it writes at most, and how many it lists
 pub record IsNeed (K : Modelling) (m : EntityMap) (c : Call) (n : Need) : Type 0 where
   pub goes : (tags : List Tag) → MayBeAsked K m c tags → IsOk (K.step m c tags)
   pub tags : n.tags ≡ K.cost m c
-  pub changes : K.changes m c ≤ n.changes
-  pub list : K.list m c ≤ n.list
+  pub changes : n.changes ≡ K.changes m c
+  pub list : n.list ≡ K.list m c
 
 -- the call is refused so, whatever tags it is given, and takes none
 pub record IsRefused (K : Modelling) (m : EntityMap) (c : Call) (e : Refusal) : Type 0 where

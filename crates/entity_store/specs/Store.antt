@@ -1,6 +1,6 @@
 -- What contracts see of a store: what it holds, which is its blocks and a map over their tags; how
 -- many more blocks it has room for; and what the last recorder has recorded.
-use Rattle.std.specs.Prelude.{◌≡◌, ◌≢◌, ℕ, ◌*◌, ◌/◌, min, List, [], ◌∷◌, length, Option, None, Some, IsTrue, MatchOption, ⊤, refl}
+use Rattle.std.specs.Prelude.{◌≡◌, ◌≢◌, ℕ, ◌*◌, ◌-◌, ◌/◌, min, List, [], ◌∷◌, length, Option, None, Some, IsTrue, MatchOption, ⊤, refl}
 use Rattle.std.specs.FinMap.{get, len, from_entries}
 use Rattle.pk_base.specs.declared.tag.Tag.{Tag}
 use Rattle.pk_base.specs.declared.entity.Entity.{Entity}
@@ -11,6 +11,7 @@ use Rattle.std.specs.Coded.{Coded, code_by, coded×, coded_list, coded_ℕ}
 use Rattle.pk_model.specs.Maps.{EntityMap}
 use Rattle.pk_model.specs.Codes.{map_code}
 use Rattle.entity_store.specs.Recording.{Recording, recording_code, nothing_recorded}
+use Rattle.entity_store.specs.OwnerLinks.{links_missing, owners_of}
 
 pub record Stored : Type 0 where
   pub blocks : List ℕ
@@ -35,9 +36,11 @@ abbrev pub recording_of : Option Recording → Recording
 recording_of None = nothing_recorded
 recording_of (Some r) = r
 
--- how many blocks there is room for, in a list of blocks and in one of slots with so much room left
-abbrev pub room_for : ℕ → ℕ → ℕ
-room_for blocks slots = min blocks (slots / TAGS_OF_A_BLOCK)
+-- How many blocks there is room for, beside so many that are owned, where the lists of blocks, of
+-- slots and of links have so much room left.
+abbrev pub room_for : (owned blocks slots links : ℕ) → ℕ
+room_for owned blocks slots links =
+    min blocks (min (slots / TAGS_OF_A_BLOCK) ((links - links_missing owned) / TAGS_OF_A_BLOCK))
 
 -- the tag's block is owned, and so is that of the entity's owner, which is another tag
 pub record IsHosted (blocks : List ℕ) (t : Tag) (e : Entity) : Type 0 where
@@ -60,10 +63,12 @@ map_of blocks slots = from_entries (live_entries (tags_of blocks) slots)
 abbrev pub stored : List ℕ → List (Option Entity) → Stored
 stored blocks slots = record { blocks = blocks; map = map_of blocks slots }
 
--- the slots of the blocks, and how many of them have an entity
-pub record IsKept (blocks : List ℕ) (slots : List (Option Entity)) (live : ℕ) : Type 0 where
+-- the slots of the blocks, who owns what stands in them, and how many of them have an entity
+pub record IsKept (blocks : List ℕ) (slots : List (Option Entity)) (live : ℕ)
+    (links : List (Option ℕ)) : Type 0 where
   pub places : length slots ≡ TAGS_OF_A_BLOCK * length blocks
   pub ascending : Ascends blocks
   pub range : AreInRange blocks
   pub count : live ≡ len (map_of blocks slots)
+  pub owners : links ≡ owners_of blocks slots
   pub hosted : (t : Tag) (e : Entity) → get (map_of blocks slots) t ≡ Some e → IsHosted blocks t e

@@ -1,9 +1,10 @@
-ghost use Rattle.std.specs.Prelude.{◌≡◌, ◌+◌, ◌*◌, ◌<◌, ◌≤◌, ◌∷◌, [], IfSome, IfNone, drop, length};
-ghost use Rattle.pk_model.specs.Tags.{tag_at, tags_of};
-ghost use Rattle.entity_store.specs.Kids.{kids_among, kids_of};
+ghost use Rattle.std.specs.Prelude.{◌≡◌, ◌+◌, ◌∷◌, [], IfSome, IfNone};
+ghost use Rattle.std.specs.List.{AllByRecursion};
+ghost use Rattle.entity_store.specs.Kids.{kids_at, IsLinkOfLive};
 
-use crate::tags::{count_tags, tag_in};
+use crate::tags::tag_in;
 use crate::{Steps, Store};
+use owner_links::Children;
 use pk_base::{Entity, TAGS_OF_A_BLOCK, Tag};
 use std::marker::Model;
 use std::sync::ledger::Ledger;
@@ -13,93 +14,48 @@ use std::sync::ledger::Ledger;
 #[derive(Drop)]
 pub struct KidWalk<'a> {
     store: &'a Store,
-    owner: Option<Tag>,
-    // How many of the blocks' tags were looked at.
-    at: u64,
+    links: Children<'a>,
 }
 
 impl<'a> Model for KidWalk<'a> {
-    ghost use Rattle.std.specs.Prelude.{◌*◌, ◌≤◌, List, drop, length};
+    ghost use Rattle.std.specs.Prelude.{List};
+    ghost use Rattle.std.specs.List.{AllByRecursion};
     ghost use Rattle.pk_base.specs.declared.tag.Tag.{Tag};
-    ghost use Rattle.pk_base.specs.declared.tag.TheConstants.{TAGS_OF_A_BLOCK};
     ghost use Rattle.pk_base.specs.declared.entity.Entity.{Entity};
-    ghost use Rattle.pk_model.specs.Tags.{tags_of};
-    ghost use Rattle.entity_store.specs.Kids.{kids_among, kids_code};
+    ghost use Rattle.entity_store.specs.Kids.{kids_at, kids_code, IsLinkOfLive};
 
     ghost Value = { List (Tag × Entity) };
 
     ghost coded = { kids_code };
 
-    ghost view = { λ w. kids_among w.store.now.state.map w.owner
-        (drop w.at (tags_of w.store.now.state.blocks)) };
+    ghost view = { λ w. kids_at w.store.now.state w.links };
 
-    ghost invariant = { λ w. w.at ≤ TAGS_OF_A_BLOCK * length w.store.now.state.blocks };
+    ghost invariant = { λ w. AllByRecursion (IsLinkOfLive w.store.now.state) w.links };
 }
 
 impl<'a> KidWalk<'a> {
-    /// A walk over all the entities with this owner, or with none.
-    pub(crate) fn over(store: &'a Store, owner: Option<Tag>) -> KidWalk<'a>
-        ensures { result ≡ kids_of store.now.state.map owner }
+    /// A walk over the entities in the slots of these links.
+    pub(crate) fn over(store: &'a Store, links: Children<'a>) -> KidWalk<'a>
+        requires { AllByRecursion (IsLinkOfLive store.now.state) links }
+        ensures { result ≡ kids_at store.now.state links.entry }
     {
-        // Its clauses say that the blocks ascend and own the tag of each entity.
-        let _blocks = store.blocks();
-        KidWalk {
-            store,
-            owner,
-            at: 0,
-        }
+        KidWalk { store, links }
     }
 
-    /// The next one, with its tag; `None` exactly where each was given. One step for each tag of
-    /// the blocks that it passes. It takes no memory.
+    /// The next one, with its tag; `None` exactly where each was given. One step for each that is
+    /// given, and none at the end. It takes no memory.
     pub fn next<L: Ledger>(&mut self, steps: &mut Steps<L>) -> Option<(Tag, &'a Entity)>
         ensures some { IfSome result (λ kid. self.old ≡ (kid.0, kid.1.now) ∷ self.new) }
         ensures none { IfNone result (self.old ≡ []) }
         ensures ended { IfNone result (self.new ≡ []) }
-        ensures steps { steps.old ≤ steps.new }
+        ensures given { IfSome result (λ _. steps.new ≡ steps.old + 1) }
+        ensures end { IfNone result (steps.new ≡ steps.old) }
     {
+        let link = self.links.next()?;
+        steps.tick();
+        let slot = link - TAGS_OF_A_BLOCK;
         let store = self.store;
-        match next_kid(store, self.owner, self.at, steps) {
-            Some((at, entity)) => {
-                let tag = tag_in(store.blocks(), at);
-                self.at = at + 1;
-                Some((tag, entity))
-            }
-            None => {
-                self.at = count_tags(store.blocks());
-                None
-            }
-        }
+        let tag = tag_in(store.blocks(), u64::from(slot));
+        Some((tag, store.entity_in(slot as usize).unwrap()))
     }
-}
-
-/// The first from a place on, among the tags of the blocks, whose entity has this owner; with its
-/// place.
-fn next_kid<'a, L: Ledger>(
-    store: &'a Store,
-    owner: Option<Tag>,
-    from: u64,
-    steps: &mut Steps<L>,
-) -> Option<(u64, &'a Entity)>
-    requires { from ≤ TAGS_OF_A_BLOCK * length store.now.state.blocks }
-    ensures within { IfSome result (λ kid.
-        kid.0 < TAGS_OF_A_BLOCK * length store.now.state.blocks) }
-    ensures some { IfSome result (λ kid.
-        kids_among store.now.state.map owner (drop from (tags_of store.now.state.blocks))
-        ≡ (tag_at (tags_of store.now.state.blocks) kid.0, kid.1.now)
-        ∷ kids_among store.now.state.map owner
-        (drop (kid.0 + 1) (tags_of store.now.state.blocks))) }
-    ensures none { IfNone result (kids_among store.now.state.map owner
-        (drop from (tags_of store.now.state.blocks)) ≡ []) }
-    ensures steps { steps.old ≤ steps.new }
-{
-    let blocks = store.blocks();
-    for at in from..count_tags(blocks) {
-        if let Some(entity) = store.get(tag_in(blocks, at), steps) {
-            if entity.owner() == owner {
-                return Some((at, entity));
-            }
-        }
-    }
-    None
 }

@@ -1,4 +1,4 @@
-ghost use Rattle.std.specs.Prelude.{◌≡◌, ℕ, ◌+◌, ◌*◌, ◌-◌, ◌<◌, ◌≤◌, ◌^◌, ◌↔◌, [], ◌∷◌, ◌++◌, length, replicate, vec_len, vec_capacity, if◌then◌else◌, IsTrue, IsSome, IfSome, IfOk, OnOk, OnErr, IsPermutation, None, Some, option_copied, nat_lt};
+ghost use Rattle.std.specs.Prelude.{◌≡◌, ◌≢◌, ℕ, ◌+◌, ◌*◌, ◌-◌, ◌<◌, ◌≤◌, ◌^◌, ◌↔◌, [], ◌∷◌, ◌++◌, length, replicate, set, vec_len, vec_capacity, if◌then◌else◌, IsTrue, IsSome, IfSome, IfOk, OnOk, OnErr, IsPermutation, None, Some, option_copied, option_map, nat_lt};
 ghost use Rattle.std.specs.List.{list_all, AllByRecursion};
 ghost use Rattle.std.specs.FinMap as map;
 ghost use Rattle.pk_model.specs.Tags.{Ascends, AreInRange, owns, tags_of, tag_at};
@@ -6,12 +6,15 @@ ghost use Rattle.pk_model.specs.Maps.{EntityMap, with_entity};
 ghost use Rattle.std.specs.Borrow.{sem, RestsIfErr};
 ghost use Rattle.entity_store.specs.Changes.{net_changes};
 ghost use Rattle.entity_store.specs.Recording.{recorded_put, HasRoomFor};
+ghost use Rattle.pk_base.specs.Entity.{owner_of};
+ghost use Rattle.entity_store.specs.OwnerLinks.{links_missing as the_links_missing, owner_link as the_owner_link, place_in};
 ghost use Rattle.entity_store.specs.Store.{IsHosted, IfHosted};
 ghost use Rattle.entity_store.specs.Recorder.{began};
 ghost use Rattle.entity_store.specs.Kids.{kids_of};
 ghost use Rattle.entity_store.specs.contracts.store.Store.{the_row};
 
 use crate::{ChangeList, KidWalk, RecordRoom, Recorder, Steps};
+use owner_links::{Children, Links};
 use pk_base::{Entity, LAST_BLOCK, NoMemory, TAGS_OF_A_BLOCK, Tag};
 use std::alloc::Global;
 use std::marker::Model;
@@ -20,6 +23,12 @@ use std::sync::ledger::Ledger;
 /// How many slots a block has: one for each tag.
 const SLOTS_OF_A_BLOCK: usize = TAGS_OF_A_BLOCK as usize;
 
+/// The link of what owns the entities without an owner. It stands before those of the slots.
+const ROOT: u32 = 0;
+
+/// The link of the first slot.
+const FIRST_LINK: u32 = TAGS_OF_A_BLOCK;
+
 /// Entities by their tags, in blocks of 64 that were added in ascending order. At every moment the
 /// owner of each is another tag of an owned block.
 #[derive(Drop)]
@@ -27,6 +36,8 @@ pub struct Store {
     // The block numbers ascend, and each has its 64 slots in their place.
     blocks: Vec<u32>,
     slots: Vec<Option<Entity>>,
+    // Who owns what stands in each slot.
+    links: Links,
     live: usize,
     // What the last recorder has recorded, until its changes are listed.
     recorded: Option<RecordRoom>,
@@ -43,12 +54,13 @@ impl Model for Store {
     ghost view = { λ s. record {
       state = stored s.blocks.items s.slots.items;
       reserved =
-          room_for (vec_capacity s.blocks - vec_len s.blocks)
-          (vec_capacity s.slots - vec_len s.slots);
+          room_for (vec_len s.blocks) (vec_capacity s.blocks - vec_len s.blocks)
+          (vec_capacity s.slots - vec_len s.slots) s.links.spare;
       recording = recording_of s.recorded;
     } };
 
-    ghost invariant = { λ s. IsKept s.blocks.items s.slots.items s.live };
+    ghost invariant = { λ s.
+        IsKept s.blocks.items s.slots.items s.live s.links.owners };
 }
 
 impl Store {
@@ -60,6 +72,7 @@ impl Store {
         Store {
             blocks: Vec::new(alloc),
             slots: Vec::new(alloc),
+            links: Links::new(alloc),
             live: 0,
             recorded: None,
         }
@@ -86,7 +99,9 @@ impl Store {
     {
         self.blocks.reserve(1)?;
         self.slots.reserve(SLOTS_OF_A_BLOCK)?;
-        Ok(())
+        self.links
+            .reserve(links_missing(self.blocks.len()) + SLOTS_OF_A_BLOCK)
+            .map_err(|_| NoMemory)
     }
 
     /// Adds a block with no entity in it, in room taken before. It takes no memory.
@@ -99,6 +114,7 @@ impl Store {
             { blocks = self.old.state.blocks ++ b ∷ [] } }
         ensures room { self.new.reserved + 1 ≡ self.old.reserved }
     {
+        add_links(&mut self.links, self.blocks.len());
         self.blocks.push_reserved(b);
         add_slots(&mut self.slots);
     }
@@ -135,7 +151,15 @@ impl Store {
         ensures cost { steps.new ≡ steps.old + 1 }
     {
         steps.tick();
-        let slot = slot_of(&self.blocks, tag)?;
+        self.entity_in(slot_of(&self.blocks, tag)?)
+    }
+
+    /// The entity in a slot.
+    pub(crate) fn entity_in(&self, slot: usize) -> Option<&Entity>
+        requires { slot < TAGS_OF_A_BLOCK * length self.now.state.blocks }
+        ensures { option_copied result
+            ≡ map.get self.now.state.map (tag_at (tags_of self.now.state.blocks) slot) }
+    {
         self.slots[slot].as_ref()
     }
 
@@ -151,6 +175,8 @@ impl Store {
     {
         steps.tick();
         let slot = slot_of(&self.blocks, tag).unwrap();
+        let owner = owner_link(&self.blocks, &to);
+        relink(&mut self.links, link_of(slot), owner);
         self.live = recount(self.live, self.slots[slot].is_some(), to.is_some());
         self.slots[slot] = to;
     }
@@ -159,14 +185,17 @@ impl Store {
     pub fn kids(&self, owner: Tag) -> KidWalk<'_>
         ensures { IsPermutation (kids_of self.now.state.map (Some owner)) result }
     {
-        KidWalk::over(self, Some(owner))
+        match slot_of(&self.blocks, owner) {
+            Some(slot) => KidWalk::over(self, self.links.children(link_of(slot))),
+            None => KidWalk::over(self, Children::none()),
+        }
     }
 
     /// A walk over the live entities without an owner, each once, in an open order.
     pub fn roots(&self) -> KidWalk<'_>
         ensures { IsPermutation (kids_of self.now.state.map None) result }
     {
-        KidWalk::over(self, None)
+        KidWalk::over(self, self.links.children(ROOT))
     }
 
     /// Lends the store with room to record the changes of `k` tags. Without memory its state is as
@@ -253,10 +282,76 @@ fn slot_of(blocks: &[u32], tag: Tag) -> Option<usize>
     ensures variant { IsSome result ↔ IsTrue (owns blocks.now tag) }
     ensures within { IfSome result (λ i. i < TAGS_OF_A_BLOCK * length blocks.now) }
     ensures place { IfSome result (λ i. tag_at (tags_of blocks.now) i ≡ tag) }
+    ensures value { IfSome result (λ i. i ≡ place_in blocks.now tag) }
 {
     match blocks.binary_search(&tag.block()) {
         Ok(place) => Some(SLOTS_OF_A_BLOCK * place + (tag.0 % TAGS_OF_A_BLOCK) as usize),
         Err(_) => None,
+    }
+}
+
+/// How many links come with a block beside those of its slots, where so many are owned: with the
+/// first one those that stand before the links of slots.
+fn links_missing(owned: usize) -> usize
+    ensures { result ≡ the_links_missing owned }
+{
+    if owned == 0 { SLOTS_OF_A_BLOCK } else { 0 }
+}
+
+/// Adds the links of a block, where so many are owned.
+fn add_links(links: &mut Links, owned: usize)
+    requires { the_links_missing owned + TAGS_OF_A_BLOCK ≤ links.old.spare }
+    ensures owners { links.new.owners
+        ≡ links.old.owners ++ replicate (the_links_missing owned + TAGS_OF_A_BLOCK) None }
+    ensures room { links.new.spare + the_links_missing owned + TAGS_OF_A_BLOCK
+        ≡ links.old.spare }
+{
+    if owned == 0 {
+        links.add_reserved();
+    }
+    links.add_reserved();
+}
+
+/// The link of a slot.
+fn link_of(slot: usize) -> u32
+    requires { slot < 2 ^ 31 }
+    ensures { result ≡ TAGS_OF_A_BLOCK + slot }
+{
+    FIRST_LINK + slot as u32
+}
+
+/// The link of what owns this entity, where there is one.
+fn owner_link(blocks: &[u32], entity: &Option<Entity>) -> Option<u32>
+    requires ascending { Ascends blocks.now }
+    requires range { AreInRange blocks.now }
+    requires owned { IfSome entity.now (λ e. IfSome (owner_of e)
+        (λ o. IsTrue (owns blocks.now o))) }
+    ensures { result ≡ option_map (the_owner_link blocks.now) entity.now }
+{
+    match entity.as_ref()?.owner() {
+        Some(owner) => Some(link_of(slot_of(blocks, owner).unwrap())),
+        None => Some(ROOT),
+    }
+}
+
+/// Makes a link the child of this owner alone, or of none.
+fn relink(links: &mut Links, child: u32, owner: Option<u32>)
+    requires child { child < length links.old.owners }
+    requires owner { IfSome owner (λ o. (o < length links.old.owners) × (child ≢ o)) }
+    ensures { links.new ≡ record links.old { owners = set links.old.owners child owner } }
+{
+    unlink(links, child);
+    if let Some(owner) = owner {
+        links.attach(child, owner);
+    }
+}
+
+/// Takes a link from its owner, where it has one.
+fn unlink(links: &mut Links, child: u32)
+    ensures { links.new ≡ record links.old { owners = set links.old.owners child None } }
+{
+    if links.owner_of(child).is_some() {
+        links.detach(child);
     }
 }
 

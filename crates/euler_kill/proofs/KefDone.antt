@@ -1,45 +1,39 @@
 -- kef: what each step asks for, and that the last one does what the row says.
 use Rattle.std.proofs.Common.{◌≡◌, ⊎_elim, List, [], ◌∷◌, ◌++◌, drop, Some, refl, sym, ap, subst, ◌∙◌, arith}
 use Rattle.std.specs.Prelude.{IsSome, is_some, Contains, IsTrue}
-use Rattle.std.specs.List.{AllByRecursion, flat_map}
-use Rattle.std.specs.FinMap.{get}
+use Rattle.std.specs.List.{AllByRecursion}
 use Rattle.std.proofs.lemmas.List.Elements.{Contains-append_left, Contains-append_right, Contains-append_cases}
 use Rattle.std.proofs.lemmas.Option.{same_Some}
 use Rattle.pk_base.specs.declared.tag.Tag.{Tag}
 use Rattle.pk_base.specs.declared.call.Call.TheVariants.{Kef}
-use Rattle.pk_model.specs.Apart.{NoRepeats}
 use Rattle.pk_model.specs.Maps.{EntityMap}
 use Rattle.pk_model.specs.Tags.{owns}
-use Rattle.list_facts.proofs.Each.{ByRecursion-weaker}
+use Rattle.list_facts.proofs.Each.{ByRecursion-left, ByRecursion-right, ByRecursion-weaker}
+use Rattle.list_facts.proofs.Elements.{Contains-first, Contains-later}
 use Rattle.entity_store.specs.Recording.{HasRoomFor}
+use Rattle.entity_store.specs.Room.{HasRoomForThese, PutsAmong}
 use Rattle.entity_store.specs.Store.{Stored, StoreView}
-use Rattle.solid_model.specs.Sound.{IsSound}
-use Rattle.solid_sound.proofs.rows.RowKeeps.{sound-links}
-use Rattle.solid_model.specs.Items.{Shape}
-use Rattle.solid_model.specs.Links.{links}
+use Rattle.entity_store.proofs.Room.{puts-wider}
+use Rattle.solid_model.specs.Deaths.{◌without◌}
+use Rattle.solid_model.specs.Items.{Shape, ◌with◌}
 use Rattle.solid_model.specs.Places.{PlacedFin}
-use Rattle.solid_model.specs.Room.{puts_of}
+use Rattle.solid_model.specs.Rings.{ends_of}
 use Rattle.solid_model.specs.Shapes.{shape_of}
-use Rattle.solid_calls.specs.Attributes.{attributes_on}
-use Rattle.solid_calls.specs.LinkedRings.{IsInRing, IsRing, Relabels, Relinks, ends_of, mate_in, next_at, ring_at}
+use Rattle.halfedge.specs.LinkedRings.{IsInRing, IsRing, Relabels, Relinks, mate_in, next_at, ring_at}
+use Rattle.solid_sound.proofs.rows.KeptKef.{kef-keeps}
+use Rattle.solid_sound.proofs.rows.RowKeeps.{Keeps}
+use Rattle.solid_model.specs.Rows.{changes}
+use Rattle.solid_edits.proofs.Going.{done}
 use Rattle.solid_calls.specs.Pairs.{HasDone}
-use Rattle.solid_calls.specs.Room.{HasRoomForThese, PutsAmong}
 use Rattle.solid_calls.proofs.Represented.{Represents, represented}
-use Rattle.solid_calls.proofs.Room.{records-of, room-part}
-use Rattle.solid_edits.proofs.Puts.{both-ends_among, each-among}
-use Rattle.solid_edits.proofs.Stages.{IsStage, only-put, stage-none, stage-owns, stage-room, stage-room_one, stage-then}
-use Rattle.solid_edits.proofs.EditedMaps.{with_loop}
-use Rattle.solid_edits.specs.Deaths.{Kills}
-use Rattle.solid_edits.proofs.KilledMaps.{with_attributes-within}
-use Rattle.euler_kill.proofs.KefReached.{first-among, kef-represented, kef_fins, kef_killed, second-among}
-use Rattle.euler_kill.proofs.KefFound.{KefGoes, kef_dead, kef_puts, kef_reaches}
-use Rattle.euler_kill.proofs.KefSteps.{attributes-were, joined-in_ring, joined-other, joined-ring_at, kef-reached, loops-once, named-in_ring, x-goes_on, x-mate, x-next}
-
--- what the ring of x is asked for, to be joined with that of its mate
-pub record AsksJoined (m : EntityMap) (x : Tag) : Type 0 where
-  pub ring : IsInRing m x
-  pub mate_ring : IsInRing m (mate_in m x)
-  pub apart : NoRepeats (ring_at m x ++ ring_at m (mate_in m x))
+use Rattle.solid_edits.specs.Deaths.{Kills, with_attributes}
+use Rattle.solid_edits.proofs.EditedMaps.{ends-among, with_loop}
+use Rattle.solid_edits.proofs.KilledMaps.{GainsNoAttribute, kills-attribute, kills-then, with_attributes-own, with_attributes-within}
+use Rattle.solid_edits.proofs.PlacedFins.{placed-class}
+use Rattle.solid_edits.proofs.RemovedEdge.{cut-attributes, cut-represents, with_loops}
+use Rattle.solid_edits.proofs.Stages.{IsStage, Within, only-put, stage-none, stage-owns, stage-room, stage-room_one, stage-then}
+use Rattle.euler_kill.proofs.KefFound.{KefGoes, fin-other, first-among, kef_dead, kef_killed, kef_loops, kef_puts, kef_reaches}
+use Rattle.euler_kill.proofs.KefSteps.{AsksJoined, asks-joined, joined-in_ring, kef-cut, loop-put, mate-ring_at, ring-is, x-goes_on, x-mate, x-next, x-ring_at}
 
 module _ (s : StoreView) (x : Tag) (u v : PlacedFin) (G : KefGoes s x u v) where
   abbrev S : Shape
@@ -51,8 +45,12 @@ module _ (s : StoreView) (x : Tag) (u v : PlacedFin) (G : KefGoes s x u v) where
   abbrev killed : List Tag
   killed = kef_killed x u
 
-  abbrev N : List Tag
-  N = kef_fins u v
+  -- the loop and the face of x, and the edge with its fins
+  abbrev side : List Tag
+  side = u.loop_ ∷ u.face ∷ []
+
+  abbrev edge : List Tag
+  edge = x ∷ u.mate ∷ u.edge ∷ []
 
   abbrev ts : List Tag
   ts = kef_puts m x u v
@@ -62,12 +60,6 @@ module _ (s : StoreView) (x : Tag) (u v : PlacedFin) (G : KefGoes s x u v) where
 
   v_ring : IsRing m v.fins
   v_ring = subst (IsRing m) (sym G.mate_fins) G.mate_ring.ring
-
-  mate_is : mate_in m x ≡ u.mate
-  mate_is = x-mate S m G.well G.rep x u v G.fin G.mate G.two u_ring v_ring
-
-  mate_fins : ring_at m (mate_in m x) ≡ v.fins
-  mate_fins = ap (ring_at m) mate_is ∙ sym G.mate_fins
 
   -- the fin after x
   abbrev p : Tag
@@ -79,102 +71,93 @@ module _ (s : StoreView) (x : Tag) (u v : PlacedFin) (G : KefGoes s x u v) where
   pub next-some : IsSome (next_at m x)
   next-some = ap is_some next_is
 
-  pub asks-joined : AsksJoined m x
-  asks-joined = record {
-    ring = G.fin_ring;
-    mate_ring = subst (IsInRing m) (sym mate_is) G.mate_ring;
-    apart = subst NoRepeats (λ i. G.fin_fins i ++ sym mate_fins i) (loops-once S m G.well G.rep x u v G.fin G.mate G.two u_ring v_ring);
-  }
-
   -- ---- the tags that are put
 
-  both_among : (t : Tag) → Contains (u.fins ++ v.fins) t → Contains ts t
-  both_among t k = Contains-append_left (v.loop_ ∷ u.fins ++ v.fins) (kef_dead m x u) t (Contains-append_right (v.loop_ ∷ []) (u.fins ++ v.fins) t k)
+  dead_among : Within (kef_dead m x u) ts
+  dead_among t k = Contains-append_left (kef_dead m x u) ((v.loop_ ∷ ends_of (drop 1 v.fins)) ++ u.fins) t k
 
-  left_among : (t : Tag) → Contains N t → Contains ts t
-  left_among t k = both_among t (⊎_elim {C = Contains (u.fins ++ v.fins) t}
-      (λ (l : Contains (drop 1 u.fins) t). Contains-append_left u.fins v.fins t (first-among S G.well x u v G.fin G.mate G.two t l))
-      (λ (r : Contains (drop 1 v.fins) t). Contains-append_right u.fins v.fins t (second-among S G.well x u v G.fin G.mate G.two t r))
-      (Contains-append_cases (drop 1 u.fins) (drop 1 v.fins) t k))
+  killed_among : Within killed ts
+  killed_among t k = dead_among t (with_attributes-own m killed t k)
 
-  dead_among : (t : Tag) → Contains (kef_dead m x u) t → Contains ts t
-  dead_among t k = Contains-append_right (v.loop_ ∷ u.fins ++ v.fins) (kef_dead m x u) t k
+  others_among : Within ((v.loop_ ∷ ends_of (drop 1 v.fins)) ++ u.fins) ts
+  others_among t k = Contains-append_right (kef_dead m x u) ((v.loop_ ∷ ends_of (drop 1 v.fins)) ++ u.fins) t k
 
-  killed_among : (t : Tag) → Contains killed t → Contains ts t
-  killed_among t k = dead_among t (Contains-append_left killed (flat_map (attributes_on m) killed) t k)
+  fins_among : Within u.fins ts
+  fins_among t k = others_among t (Contains-append_right (v.loop_ ∷ ends_of (drop 1 v.fins)) u.fins t k)
 
-  loop_among : (t : Tag) → Contains (v.loop_ ∷ []) t → Contains ts t
-  loop_among t k = Contains-append_left (v.loop_ ∷ u.fins ++ v.fins) (kef_dead m x u) t (Contains-append_left (v.loop_ ∷ []) (u.fins ++ v.fins) t k)
+  ends_among : Within (ends_of (drop 1 v.fins)) ts
+  ends_among t k = others_among t (Contains-append_left (v.loop_ ∷ ends_of (drop 1 v.fins)) u.fins t (Contains-later v.loop_ (ends_of (drop 1 v.fins)) t k))
 
-  abbrev joined_runs : List Tag
-  joined_runs = drop 1 (ring_at m x) ++ drop 1 (ring_at m (mate_in m x))
+  loop_among : Within (v.loop_ ∷ []) ts
+  loop_among t k = others_among t (Contains-append_left (v.loop_ ∷ ends_of (drop 1 v.fins)) u.fins t (Contains-append_left (v.loop_ ∷ []) (ends_of (drop 1 v.fins)) t k))
 
-  runs_are : joined_runs ≡ N
-  runs_are = λ i. drop 1 (sym G.fin_fins i) ++ drop 1 (mate_fins i)
+  ring_among : Within (ring_at m x) ts
+  ring_among t k = fins_among t (subst (λ us. Contains us t) (sym G.fin_fins) k)
 
-  abbrev linked : List Tag
-  linked = x ∷ mate_in m x ∷ ends_of (drop 1 (ring_at m x)) ++ ends_of (drop 1 (ring_at m (mate_in m x)))
+  -- ---- what the fins of x's ring are asked for, to name the other loop
 
-  linked_among : (t : Tag) → Contains linked t → Contains ts t
-  linked_among t k = ⊎_elim {C = Contains ts t}
-      (λ (e : Contains (x ∷ mate_in m x ∷ []) t).
-      each-among (x ∷ mate_in m x ∷ []) ts (killed_among x (2, omega arith, refl), (subst (Contains ts) (sym mate_is) (killed_among u.mate (3, omega arith, refl)), tt)) t e)
-      (λ (q : Contains (ends_of (drop 1 (ring_at m x)) ++ ends_of (drop 1 (ring_at m (mate_in m x)))) t).
-      both-ends_among (drop 1 (ring_at m x)) (drop 1 (ring_at m (mate_in m x))) ts (λ a j. left_among a (subst (λ z. Contains z a) runs_are j)) t q)
-      (Contains-append_cases (x ∷ mate_in m x ∷ []) (ends_of (drop 1 (ring_at m x)) ++ ends_of (drop 1 (ring_at m (mate_in m x)))) t k)
+  pub label-other : ¬ (Contains (ring_at m x) v.loop_)
+  label-other k =
+      fin-other S G.well x u v G.fin G.mate G.two v.loop_
+      (placed-class G.well G.fin.end v.loop_ (subst (λ us. Contains us v.loop_) (sym G.fin_fins) k)) refl
 
-  pub joined-room : HasRoomForThese s.recording linked
-  joined-room = room-part s.recording ts linked G.room linked_among
+  pub label-room : HasRoomForThese s.recording (ring_at m x)
+  label-room = stage-room ts (ring_at m x) s s G.room (stage-none ts s) ring_among
 
-  -- ---- once the rings are joined
-
-  module _ (first : Tag) (first_is : next_at m x ≡ Some first) (s1 : StoreView)
-      (links1 : Relinks m (ring_at m x ∷ ring_at m (mate_in m x) ∷ []) s1.state.map (joined_runs ∷ (x ∷ []) ∷ (mate_in m x ∷ []) ∷ []))
-      (state1 : s1.state ≡ record s.state { map = s1.state.map }) (puts1 : PutsAmong linked s s1) where
+  module _ (s1 : StoreView) (labels1 : Relabels m (ring_at m x) v.loop_ s1.state.map) (state1 : s1.state ≡ record s.state { map = s1.state.map }) (puts1 : PutsAmong (ring_at m x) s s1) where
     abbrev m1 : EntityMap
     m1 = s1.state.map
 
-    first_same : p ≡ first
-    first_same = same_Some p first (sym next_is ∙ first_is)
-
-    joined : Relinks m (u.fins ∷ v.fins ∷ []) m1 (N ∷ (x ∷ []) ∷ (u.mate ∷ []) ∷ [])
-    joined = subst (λ (z : List Tag × List Tag × List Tag × Tag). Relinks m (z.0 ∷ z.1 ∷ []) m1 (z.2 ∷ (x ∷ []) ∷ (z.3 ∷ []) ∷ [])) (λ i. (sym G.fin_fins i, mate_fins i, runs_are i, mate_is i)) links1
+    labels : Relabels m u.fins v.loop_ m1
+    labels = subst (λ us. Relabels m us v.loop_ m1) (sym G.fin_fins) labels1
 
     one : IsStage ts s s1
-    one = stage-then ts linked s s s1 (stage-none ts s) linked_among state1 puts1
+    one = stage-then ts (ring_at m x) s s s1 (stage-none ts s) ring_among state1 puts1
 
-    ring1 : ring_at m1 first ≡ N
-    ring1 = ap (ring_at m1) (sym first_same) ∙ joined-ring_at S m G.well G.rep x u v G.fin G.mate G.two u_ring v_ring m1 joined
+    -- ---- the rings
 
-    pub label-ring : IsInRing m1 first
-    label-ring = subst (IsInRing m1) first_same (joined-in_ring S m G.well G.rep x u v G.fin G.mate G.two u_ring v_ring m1 joined)
+    pub kef-asks : AsksJoined m1 x
+    kef-asks = asks-joined S m G.well G.rep x u v G.fin G.mate G.two u_ring v_ring m1 labels
 
-    pub label-owned : IsTrue (owns s1.state.blocks v.loop_)
-    label-owned = stage-owns ts s s1 v.loop_ one G.loop_owned
+    abbrev linked : List Tag
+    linked = x ∷ mate_in m1 x ∷ ends_of (drop 1 (ring_at m1 x)) ++ ends_of (drop 1 (ring_at m1 (mate_in m1 x)))
 
-    pub label-other : ¬ (Contains (ring_at m1 first) v.loop_)
-    label-other = subst (λ q. ¬ (Contains (ring_at m1 q) v.loop_)) first_same (joined-other S m G.well G.rep x u v G.fin G.mate G.two u_ring v_ring m1 joined)
+    linked_are : linked ≡ (x ∷ u.mate ∷ []) ++ ends_of (drop 1 u.fins) ++ ends_of (drop 1 v.fins)
+    linked_are =
+        let here = x-ring_at S m G.well G.rep x u v G.fin G.mate G.two u_ring v_ring m1 labels in
+        let there = mate-ring_at S m G.well G.rep x u v G.fin G.mate G.two u_ring v_ring m1 labels in
+        let mate = x-mate S m G.well G.rep x u v G.fin G.mate G.two u_ring v_ring m1 labels in
+        λ i. x ∷ mate i ∷ ends_of (drop 1 (here i)) ++ ends_of (drop 1 (there i))
 
-    named_among : (t : Tag) → Contains (ring_at m1 first) t → Contains ts t
-    named_among t k = left_among t (subst (λ z. Contains z t) ring1 k)
+    pair_among : Within (x ∷ u.mate ∷ []) ts
+    pair_among t k = killed_among t (Contains-later u.loop_ (u.face ∷ x ∷ u.mate ∷ u.edge ∷ []) t (Contains-later u.face (x ∷ u.mate ∷ u.edge ∷ []) t (Contains-append_left (x ∷ u.mate ∷ []) (u.edge ∷ []) t k)))
 
-    pub label-room : HasRoomForThese s1.recording (ring_at m1 first)
-    label-room = stage-room ts (ring_at m1 first) s s1 G.room one named_among
+    linked_among : Within linked ts
+    linked_among t k = ⊎_elim {C = Contains ts t} (pair_among t)
+        (λ (r : Contains (ends_of (drop 1 u.fins) ++ ends_of (drop 1 v.fins)) t). ⊎_elim {C = Contains ts t}
+        (λ (a : Contains (ends_of (drop 1 u.fins)) t). fins_among t (first-among S G.well x u v G.fin G.mate G.two t (ends-among (drop 1 u.fins) t a)))
+        (ends_among t)
+        (Contains-append_cases (ends_of (drop 1 u.fins)) (ends_of (drop 1 v.fins)) t r))
+        (Contains-append_cases (x ∷ u.mate ∷ []) (ends_of (drop 1 u.fins) ++ ends_of (drop 1 v.fins)) t (subst (λ us. Contains us t) linked_are k))
 
-    -- ---- once its fins name the loop
+    pub joined-room : HasRoomForThese s1.recording linked
+    joined-room = stage-room ts linked s s1 G.room one linked_among
 
-    module _ (s2 : StoreView) (labels2 : Relabels m1 (ring_at m1 first) v.loop_ s2.state.map) (state2 : s2.state ≡ record s1.state { map = s2.state.map }) (puts2 : PutsAmong (ring_at m1 first) s1 s2) where
+    module _ (s2 : StoreView) (links2 : Relinks m1 (ring_at m1 x ∷ ring_at m1 (mate_in m1 x) ∷ []) s2.state.map ((drop 1 (ring_at m1 x) ++ drop 1 (ring_at m1 (mate_in m1 x))) ∷ (x ∷ []) ∷ (mate_in m1 x ∷ []) ∷ []))
+        (state2 : s2.state ≡ record s1.state { map = s2.state.map }) (puts2 : PutsAmong linked s1 s2) (first : Tag) (first_is : next_at m x ≡ Some first) where
       abbrev m2 : EntityMap
       m2 = s2.state.map
 
-      labels : Relabels m1 (ring_at m1 p) v.loop_ m2
-      labels = subst (λ q. Relabels m1 (ring_at m1 q) v.loop_ m2) (sym first_same) labels2
+      first_same : p ≡ first
+      first_same = same_Some p first (sym next_is ∙ first_is)
 
       two : IsStage ts s s2
-      two = stage-then ts (ring_at m1 first) s s1 s2 one named_among state2 puts2
+      two = stage-then ts linked s s1 s2 one linked_among state2 puts2
+
+      -- ---- the loop
 
       pub loop-ring : IsInRing m2 first
-      loop-ring = subst (IsInRing m2) first_same (named-in_ring S m G.well G.rep x u v G.fin G.mate G.two u_ring v_ring m1 joined m2 labels)
+      loop-ring = subst (IsInRing m2) first_same (joined-in_ring S m G.well G.rep x u v G.fin G.mate G.two u_ring v_ring m1 labels m2 links2)
 
       pub loop-owned : IsTrue (owns s2.state.blocks v.loop_)
       loop-owned = stage-owns ts s s2 v.loop_ two G.loop_owned
@@ -183,7 +166,7 @@ module _ (s : StoreView) (x : Tag) (u v : PlacedFin) (G : KefGoes s x u v) where
       loop-face_owned = stage-owns ts s s2 v.face two G.face_owned
 
       pub loop-room : HasRoomFor s2.recording v.loop_
-      loop-room = stage-room_one ts s s2 v.loop_ G.room two (loop_among v.loop_ (0, omega arith, refl))
+      loop-room = stage-room_one ts s s2 v.loop_ G.room two (loop_among v.loop_ (Contains-first v.loop_ []))
 
       -- ---- once the loop is put
 
@@ -191,40 +174,58 @@ module _ (s : StoreView) (x : Tag) (u v : PlacedFin) (G : KefGoes s x u v) where
         abbrev m3 : EntityMap
         m3 = s3.state.map
 
-        map3 : m3 ≡ with_loop m2 v.loop_ v.face p
-        map3 = ap (λ (z : Stored). z.map) state3 ∙ ap (with_loop m2 v.loop_ v.face) (sym first_same)
+        map3 : m3 ≡ with_loops m2 (kef_loops u v)
+        map3 =
+            ap (λ (z : Stored). z.map) state3 ∙ ap (with_loop m2 v.loop_ v.face) (sym first_same)
+            ∙ loop-put S m G.well G.rep x u v G.fin G.mate G.two u_ring v_ring m1 labels m2 links2
 
         three : IsStage ts s s3
         three = stage-then ts (v.loop_ ∷ []) s s2 s3 two loop_among (only-put s2.state s3.state (with_loop m2 v.loop_ v.face first) state3) puts3
 
-        pub side-owned : AllByRecursion (λ t. IsTrue (owns s3.state.blocks t)) killed
-        side-owned = ByRecursion-weaker (λ t. IsTrue (owns s.state.blocks t)) (λ t. IsTrue (owns s3.state.blocks t)) (λ t k. stage-owns ts s s3 t three k) killed G.owned
+        gains3 : GainsNoAttribute m m3
+        gains3 = subst (GainsNoAttribute m) (sym map3) (cut-attributes G.well G.rep G.fin G.mate (kef-cut S m G.well G.rep x u v G.fin G.mate G.two u_ring v_ring m1 labels m2 links2))
 
-        -- no attribute has come
-        fewer : (t : Tag) → Contains (kef_dead m3 x u) t → Contains (kef_dead m x u) t
-        fewer t k = with_attributes-within m m3 killed killed (λ o j. j) (λ o q j (name, value, is).
-            (name, value, attributes-were S m G.well G.rep x u v G.fin G.mate G.two u_ring v_ring m1 joined m2 labels q o name value (ap (λ z. get z q) (sym map3) ∙ is))) t k
+        -- ---- the loop and the face of x die
 
-        side_among : (t : Tag) → Contains (kef_dead m3 x u) t → Contains ts t
-        side_among t k = dead_among t (fewer t k)
+        pub side-owned : AllByRecursion (λ t. IsTrue (owns s3.state.blocks t)) side
+        side-owned = ByRecursion-weaker (λ t. IsTrue (owns s.state.blocks t)) (λ t. IsTrue (owns s3.state.blocks t)) (λ t k. stage-owns ts s s3 t three k) side (ByRecursion-left (λ t. IsTrue (owns s.state.blocks t)) side edge G.owned)
 
-        pub side-room : HasRoomForThese s3.recording (kef_dead m3 x u)
-        side-room = stage-room ts (kef_dead m3 x u) s s3 G.room three side_among
+        side_among : Within (with_attributes m3 side) ts
+        side_among t k = dead_among t (with_attributes-within m m3 killed side (Contains-append_left side edge) (λ o q j. gains3 o q) t k)
 
-        -- ---- once the face of x is dead
+        pub side-room : HasRoomForThese s3.recording (with_attributes m3 side)
+        side-room = stage-room ts (with_attributes m3 side) s s3 G.room three side_among
 
-        module _ (s4 : StoreView) (kills4 : Kills m3 killed s4.state.map)
-            (state4 : s4.state ≡ record s3.state { map = s4.state.map }) (puts4 : PutsAmong (kef_dead m3 x u) s3 s4) where
+        module _ (s4 : StoreView) (kills4 : Kills m3 side s4.state.map) (state4 : s4.state ≡ record s3.state { map = s4.state.map }) (puts4 : PutsAmong (with_attributes m3 side) s3 s4) where
+          abbrev m4 : EntityMap
+          m4 = s4.state.map
+
           four : IsStage ts s s4
-          four = stage-then ts (kef_dead m3 x u) s s3 s4 three side_among state4 puts4
+          four = stage-then ts (with_attributes m3 side) s s3 s4 three side_among state4 puts4
 
-          shows : Represents (kef_reaches S x u v) s4.state.map
-          shows = kef-represented S G.well x u v G.fin G.mate G.two m s4.state.map G.rep
-              (kef-reached S m G.well G.rep x u v G.fin G.mate G.two u_ring v_ring m1 joined m2 labels s4.state.map (subst (λ z. Kills z killed s4.state.map) map3 kills4))
+          -- ---- and the edge with its fins
 
-          pub kef-done : HasDone s (Kef x) [] s4
-          kef-done = record {
-            state = four.state ∙ ap (λ (n : EntityMap). record s.state { map = n }) (represented (kef_reaches S x u v) s4.state.map G.reached_well shows ∙ ap links (sym G.is));
-            sound = subst IsSound (sym (represented (kef_reaches S x u v) s4.state.map G.reached_well shows)) (sound-links (kef_reaches S x u v) G.reached_well);
-            records = records-of ts (puts_of S (Kef x)) s s4 four.puts G.few;
-          }
+          pub edge-owned : AllByRecursion (λ t. IsTrue (owns s4.state.blocks t)) edge
+          edge-owned = ByRecursion-weaker (λ t. IsTrue (owns s.state.blocks t)) (λ t. IsTrue (owns s4.state.blocks t)) (λ t k. stage-owns ts s s4 t four k) edge (ByRecursion-right (λ t. IsTrue (owns s.state.blocks t)) side edge G.owned)
+
+          edge_among : Within (with_attributes m4 edge) ts
+          edge_among t k = dead_among t (with_attributes-within m m4 killed edge (Contains-append_right side edge) (λ o q j is. gains3 o q (kills-attribute m3 m4 side kills4 o q is)) t k)
+
+          pub edge-room : HasRoomForThese s4.recording (with_attributes m4 edge)
+          edge-room = stage-room ts (with_attributes m4 edge) s s4 G.room four edge_among
+
+          module _ (s5 : StoreView) (kills5 : Kills m4 edge s5.state.map) (state5 : s5.state ≡ record s4.state { map = s5.state.map }) (puts5 : PutsAmong (with_attributes m4 edge) s4 s5) where
+            five : IsStage ts s s5
+            five = stage-then ts (with_attributes m4 edge) s s4 s5 four edge_among state5 puts5
+
+            shows : Represents (kef_reaches S x u v) s5.state.map
+            shows =
+                let kills = kills-then m3 m4 s5.state.map side edge kills4 kills5 in
+                subst (λ i. Represents (S with (v.loop_, i) ∷ [] without killed) s5.state.map) (ring-is S m G.well G.rep x u v G.fin G.mate G.two u_ring v_ring)
+                (cut-represents G.well G.rep G.fin G.mate (kef-cut S m G.well G.rep x u v G.fin G.mate G.two u_ring v_ring m1 labels m2 links2) s5.state.map (subst (λ (n : EntityMap). Kills n killed s5.state.map) map3 kills))
+
+            pub kef-done : HasDone s (Kef x) [] s5
+            kef-done =
+                done s s5 (Kef x) [] (changes (kef_reaches S x u v)) G.row G.sound (omega arith) (kef-keeps S [] x G.well)
+                (five.state ∙ ap (λ (n : EntityMap). record s.state { map = n }) (represented (kef_reaches S x u v) s5.state.map (subst (Keeps []) G.row (kef-keeps S [] x G.well)) shows))
+                (puts-wider ts _ s s5 five.puts G.among)

@@ -1,41 +1,35 @@
--- kef: the steps from one map to the next.
-use Rattle.std.proofs.Common.{◌≡◌, ◌≢◌, ⊎_elim, List, [], ◌∷◌, ◌++◌, drop, Option, Some, None, refl, sym, ap, subst, ◌∙◌}
-use Rattle.std.specs.Prelude.{ℤ, unwrap_or, Contains}
+-- kef: the steps from one map to the next: the fins of one ring name the loop of the other, and then the rings are joined.
+use Rattle.std.proofs.Common.{◌≡◌, ◌≢◌, ⊎_elim, List, [], ◌∷◌, ◌++◌, drop, Option, Some, None, refl, sym, ap, subst, ◌∙◌, arith}
+use Rattle.std.specs.Prelude.{unwrap_or, Contains}
 use Rattle.std.specs.Option.{option_map_or, option_and_then}
 use Rattle.std.specs.List.{AllByRecursion}
-use Rattle.std.specs.FinMap.{get}
-use Rattle.std.proofs.lemmas.List.Elements.{Contains-append_left, Contains-append_right, Contains-append_cases}
+use Rattle.std.proofs.lemmas.List.Elements.{Contains-append_cases}
 use Rattle.pk_base.specs.Blocks.{tag}
-use Rattle.std.proofs.lemmas.Option.{same_Some}
 use Rattle.pk_base.specs.declared.tag.Tag.{Tag}
-use Rattle.pk_base.specs.declared.entity.Name.{Name}
 use Rattle.pk_base.specs.declared.entity.Entity.{Entity}
 use Rattle.pk_base.specs.declared.entity.Entity.TheVariants as entity
 use Rattle.pk_model.specs.Apart.{NoRepeats}
-use Rattle.pk_model.specs.Maps.{EntityMap}
-use Rattle.pk_model.proofs.TagLists.{NoRepeats-append}
+use Rattle.pk_model.specs.Maps.{EntityMap, with_entity}
+use Rattle.pk_model.proofs.TagLists.{NoneOf, NoRepeats-append}
+use Rattle.list_facts.proofs.Elements.{Contains-first}
+use Rattle.list_facts.proofs.Each.{ByRecursion-contains, ByRecursion-at}
 use Rattle.solid_model.specs.Items.{Item, Shape}
-use Rattle.solid_model.specs.Items.Item.{Fin}
-use Rattle.solid_model.specs.Rings.{first_tag, from_least, neighbours}
+use Rattle.solid_model.specs.Rings.{first_tag, from_least, neighbours, ring_of, ring_or_lone}
 use Rattle.solid_model.specs.Places.{PlacedFin, mate_of, start_at, vertex_of}
 use Rattle.solid_model.specs.Sound.{end_of}
-use Rattle.solid_calls.specs.LinkedRings.{IsInRing, IsRing, Relabels, Relinks, as_fin, mate_in, next_at, ring_at}
-use Rattle.solid_sound.proofs.lists.Neighbours.{NoneOf}
-use Rattle.solid_sound.proofs.lists.Cycles.{written-itself}
+use Rattle.solid_model.proofs.lists.Cycles.{written-itself}
+use Rattle.solid_model.proofs.lists.Turned.{turned-all}
+use Rattle.halfedge.specs.LinkedRings.{IsInRing, IsRing, Relabels, Relinks, as_fin, loop_named, mate_in, next_at, ring_at}
+use Rattle.halfedge.proofs.LinkedRings.{in-ring_from, ring-links, ring_at-is}
 use Rattle.solid_sound.proofs.edges.Ends.{FinIn}
+use Rattle.solid_sound.proofs.shapes.FinRings.{lone_for}
 use Rattle.solid_sound.proofs.rows.RowKeeps.{IsWell}
-use Rattle.solid_sound.proofs.lists.Turned.{turned-all}
-use Rattle.solid_calls.proofs.LinkedRings.{in-ring_from, ring-links, ring_at-is}
 use Rattle.solid_calls.proofs.Represented.{Represents}
-use Rattle.solid_edits.proofs.EditedMaps.{HasFin, with_loop, relabelled-has_fin, relabelled-named, relabelled-ring, relinked-has_fin, ring-same, same-named}
-use Rattle.solid_edits.specs.Deaths.{Kills, unless_on_any}
-use Rattle.solid_edits.proofs.KilledMaps.{unless-owned, unless-spared}
-use Rattle.solid_edits.proofs.PlacedAnew.{elsewhere-plain, relabels-elsewhere, relinks-elsewhere}
-use Rattle.solid_edits.proofs.PlacedFins.{placed-listed, placed-loop, placed-other}
-use Rattle.list_facts.proofs.Elements.{Contains-first, Contains-cases}
-use Rattle.list_facts.proofs.Each.{ByRecursion-contains, ByRecursion-at}
-use Rattle.euler_kill.proofs.KefReached.{KefReached, fin-lives, first-among, kef_fins, kef_killed, left-fin, loop-lives, second-among}
-use Rattle.entity_store.proofs.FirstValues.{get_other, get_put}
+use Rattle.solid_edits.proofs.EditedMaps.{HasFin, relabelled-has_fin, relabelled-ring, same-named, with_loop}
+use Rattle.solid_edits.proofs.PlacedAnew.{relabels-elsewhere, relabels-named, relinks-elsewhere, relinks-named}
+use Rattle.solid_edits.proofs.PlacedFins.{placed-listed, placed-loop, placed-named}
+use Rattle.solid_edits.proofs.RemovedEdge.{IsCutOut, with_loops}
+use Rattle.euler_kill.proofs.KefFound.{fin-lives, fin-other, first-among, kef_fins, kef_killed, kef_loops, killed-once, left-fin, loop-lives, second-among}
 
 -- a list of f, another, and more
 pub record GoesOn (f : Tag) (fins : List Tag) : Type 0 where
@@ -67,25 +61,22 @@ not_again : (f : Tag) (fins : List Tag) → GoesOn f fins → (t : Tag) → Cont
 not_again f fins on t k e once =
     ByRecursion-at (λ q. f ≢ q) (on.second ∷ on.rest) t (subst NoRepeats on.is once).0 (subst (λ ts. Contains (drop 1 ts) t) on.is k) (sym e)
 
--- a fin of the ring that is not the first is among the others
-outside : (f : Tag) (fins rest : List Tag) → fins ≡ f ∷ rest → (t : Tag) → Contains fins t → t ≢ f → ¬ (Contains (drop 1 fins) t) → ⊥
-outside f fins rest is t k other out = ⊎_elim {C = ⊥}
-    (λ (e : f ≡ t). other (sym e))
-    (λ (j : Contains rest t). out (subst (λ ts. Contains (drop 1 ts) t) (sym is) j))
-    (Contains-cases f rest t (subst (λ ts. Contains ts t) is k))
+-- the mate of a fin
+mate-of_fin : (m : EntityMap) (f mate edge vertex : Tag) → HasFin m f mate edge vertex → mate_in m f ≡ mate
+mate-of_fin m f mate edge vertex is = ap (λ (o : Option Entity). option_map_or (λ z. z.mate) (option_and_then as_fin o) f) is.3
+
+-- what the ring of x is asked for, to be joined with that of its mate
+pub record AsksJoined (m : EntityMap) (x : Tag) : Type 0 where
+  pub ring : IsInRing m x
+  pub mate_ring : IsInRing m (mate_in m x)
+  pub apart : NoRepeats (ring_at m x ++ ring_at m (mate_in m x))
 
 module _ (S : Shape) (m : EntityMap) (well : IsWell S) (rep : Represents S m) (x : Tag) (u v : PlacedFin) (U : FinIn S x u) (V : FinIn S u.mate v) (two : u.loop_ ≢ v.loop_)
     (u_ring : IsRing m u.fins) (v_ring : IsRing m v.fins) where
-  abbrev killed : List Tag
-  killed = kef_killed x u
-
   abbrev N : List Tag
   N = kef_fins u v
 
   -- ---- before
-
-  pub x-mate : mate_in m x ≡ u.mate
-  x-mate = let is = rep.items x _ U.fin_is in ap (λ (o : Option Entity). option_map_or (λ z. z.mate) (option_and_then as_fin o) x) is.3
 
   pub x-goes_on : GoesOn x u.fins
   x-goes_on = goes-on S well x u U
@@ -102,117 +93,99 @@ module _ (S : Shape) (m : EntityMap) (well : IsWell S) (rep : Represents S m) (x
   abbrev rest : List Tag
   rest = x-goes_on.rest ++ drop 1 v.fins
 
-  N_is : N ≡ p ∷ rest
-  N_is = ap (λ ts. drop 1 ts ++ drop 1 v.fins) x-goes_on.is
+  pub left-is : N ≡ p ∷ rest
+  left-is = ap (λ ts. drop 1 ts ++ drop 1 v.fins) x-goes_on.is
+
+  -- the row writes it as a ring
+  pub ring-is : ring_or_lone v.face N v.vertex ≡ ring_of v.face N
+  ring-is = ap (λ ts. ring_or_lone v.face ts v.vertex) left-is ∙ ap (ring_of v.face) (sym left-is)
 
   pub loops-apart : (t : Tag) → Contains u.fins t → Contains v.fins t → ⊥
   loops-apart t k j = two (sym (placed-loop well U.end v.loop_ v.face V.end.list V.end.lone V.end.loop_is t (placed-listed well V.end t j) k))
 
-  pub loops-once : NoRepeats (u.fins ++ v.fins)
+  loops-once : NoRepeats (u.fins ++ v.fins)
   loops-once = NoRepeats-append u.fins v.fins u_ring.once v_ring.once (ByRecursion-contains (λ t. NoneOf t v.fins) u.fins (λ t k.
       ByRecursion-contains (λ q. t ≢ q) v.fins (λ q j e. loops-apart t k (subst (Contains v.fins) (sym e) j))))
+
+  x_among : Contains u.fins x
+  x_among = subst (λ ts. Contains ts x) (sym U.fins_are) (Contains-first x U.rest)
+
+  mate_among : Contains v.fins u.mate
+  mate_among = subst (λ ts. Contains ts u.mate) (sym V.fins_are) (Contains-first u.mate V.rest)
 
   -- the first fin of a ring is not among the others
   not_x : (t : Tag) → Contains N t → t ≢ x
   not_x t k e = ⊎_elim {C = ⊥}
       (λ (l : Contains (drop 1 u.fins) t). not_again x u.fins x-goes_on t l e u_ring.once)
-      (λ (r : Contains (drop 1 v.fins) t). loops-apart x (subst (λ ts. Contains ts x) (sym U.fins_are) (Contains-first x U.rest)) (subst (Contains v.fins) e (second-among S well x u v U V two t r)))
+      (λ (r : Contains (drop 1 v.fins) t). loops-apart x x_among (subst (Contains v.fins) e (second-among S well x u v U V two t r)))
       (Contains-append_cases (drop 1 u.fins) (drop 1 v.fins) t k)
 
   not_mate : (t : Tag) → Contains N t → t ≢ u.mate
   not_mate t k e = ⊎_elim {C = ⊥}
-      (λ (l : Contains (drop 1 u.fins) t). loops-apart u.mate (subst (Contains u.fins) e (first-among S well x u v U V two t l)) (subst (λ ts. Contains ts u.mate) (sym V.fins_are) (Contains-first u.mate V.rest)))
+      (λ (l : Contains (drop 1 u.fins) t). loops-apart u.mate (subst (Contains u.fins) e (first-among S well x u v U V two t l)) mate_among)
       (λ (r : Contains (drop 1 v.fins) t). not_again u.mate v.fins mate-goes_on t r e v_ring.once)
       (Contains-append_cases (drop 1 u.fins) (drop 1 v.fins) t k)
 
-  left_lives : (t : Tag) → Contains N t → NoneOf t killed
-  left_lives t k = let fin = left-fin S well x u v U V two t k in fin-lives S well x u v U V two t fin.0 fin.1 fin.2 fin.3 (not_x t k) (not_mate t k)
+  -- ---- the fins of x's ring name the other loop
 
-  left_other : (t : Tag) → Contains N t → t ≢ v.loop_
-  left_other t k = let fin = left-fin S well x u v U V two t k in placed-other well V.end t fin.0 fin.1 fin.2 fin.3
+  module _ (n : EntityMap) (labels : Relabels m u.fins v.loop_ n) where
+    u_named : IsRing n (x ∷ U.rest)
+    u_named = subst (IsRing n) U.fins_are (relabelled-ring m n u.fins v.loop_ labels u.fins u_ring)
 
-  -- ---- the rings are joined
+    v_named : IsRing n (u.mate ∷ V.rest)
+    v_named = subst (IsRing n) V.fins_are (relabelled-ring m n u.fins v.loop_ labels v.fins v_ring)
 
-  module _ (n : EntityMap) (joined : Relinks m (u.fins ∷ v.fins ∷ []) n (N ∷ (x ∷ []) ∷ (u.mate ∷ []) ∷ [])) where
-    joined_ring : IsRing n N
-    joined_ring = joined.rings.0
+    pub x-ring_at : ring_at n x ≡ u.fins
+    x-ring_at = ring_at-is n x U.rest u_named ∙ sym U.fins_are
 
-    pub joined-ring_at : ring_at n p ≡ N
-    joined-ring_at = ring_at-is n p rest (subst (IsRing n) N_is joined_ring) ∙ sym N_is
+    pub x-mate : mate_in n x ≡ u.mate
+    x-mate = mate-of_fin n x u.mate u.edge u.vertex (relabelled-has_fin m n u.fins v.loop_ x u.mate u.edge u.vertex labels (rep.items x _ U.fin_is))
 
-    pub joined-in_ring : IsInRing n p
-    joined-in_ring = in-ring_from n p rest (subst (IsRing n) N_is joined_ring)
+    pub mate-ring_at : ring_at n (mate_in n x) ≡ v.fins
+    mate-ring_at = ap (ring_at n) x-mate ∙ ring_at-is n u.mate V.rest v_named ∙ sym V.fins_are
 
-    pub joined-other : ¬ (Contains (ring_at n p) v.loop_)
-    joined-other k = left_other v.loop_ (subst (λ ts. Contains ts v.loop_) joined-ring_at k) refl
+    pub asks-joined : AsksJoined n x
+    asks-joined = record {
+      ring = in-ring_from n x U.rest u_named;
+      mate_ring = subst (IsInRing n) (sym x-mate) (in-ring_from n u.mate V.rest v_named);
+      apart = subst NoRepeats (λ i. sym x-ring_at i ++ sym mate-ring_at i) loops-once;
+    }
 
-    -- ---- all fins of it name the loop
+    -- ---- the rings are joined
 
-    module _ (q : EntityMap) (labelled : Relabels n (ring_at n p) v.loop_ q) where
-      labels : Relabels n N v.loop_ q
-      labels = subst (λ ts. Relabels n ts v.loop_ q) joined-ring_at labelled
+    module _ (q : EntityMap) (relinks : Relinks n (ring_at n x ∷ ring_at n (mate_in n x) ∷ []) q ((drop 1 (ring_at n x) ++ drop 1 (ring_at n (mate_in n x))) ∷ (x ∷ []) ∷ (mate_in n x ∷ []) ∷ [])) where
+      joined : Relinks n (u.fins ∷ v.fins ∷ []) q (N ∷ (x ∷ []) ∷ (u.mate ∷ []) ∷ [])
+      joined = subst (λ (z : List Tag × List Tag × Tag). Relinks n (z.0 ∷ z.1 ∷ []) q ((drop 1 z.0 ++ drop 1 z.1) ∷ (x ∷ []) ∷ (z.2 ∷ []) ∷ [])) (λ i. (x-ring_at i, mate-ring_at i, x-mate i)) relinks
 
-      named_ring : IsRing q N
-      named_ring = relabelled-ring n q N v.loop_ labels N joined_ring
+      joined_ring : IsRing q (p ∷ rest)
+      joined_ring = subst (IsRing q) left-is joined.rings.0
 
-      pub named-ring_at : ring_at q p ≡ N
-      named-ring_at = ring_at-is q p rest (subst (IsRing q) N_is named_ring) ∙ sym N_is
+      pub joined-in_ring : IsInRing q p
+      joined-in_ring = in-ring_from q p rest joined_ring
 
-      pub named-in_ring : IsInRing q p
-      named-in_ring = in-ring_from q p rest (subst (IsRing q) N_is named_ring)
+      -- the loop of the ring, as it is put
+      pub loop-put : with_loop q v.loop_ v.face p ≡ with_loops q (kef_loops u v)
+      loop-put =
+          let none : lone_for N v.vertex ≡ None = ap (λ ts. lone_for ts v.vertex) left-is in
+          let ring : ring_at q p ≡ N = ring_at-is q p rest joined_ring ∙ sym left-is in
+          λ i. with_entity q v.loop_ (Some (entity.Loop v.face (first_tag (from_least (ring i))) (sym none i)))
 
-      abbrev made : Entity
-      made = entity.Loop v.face (first_tag (from_least (ring_at q p))) None
+      named : (t : Tag) → Contains N t → loop_named q t ≡ Some v.loop_
+      named t k = relinks-named n q _ _ joined t ∙ ⊎_elim {C = loop_named n t ≡ Some v.loop_}
+          (λ (l : Contains (drop 1 u.fins) t). relabels-named m n u.fins v.loop_ u_ring labels t (first-among S well x u v U V two t l))
+          (λ (r : Contains (drop 1 v.fins) t). let among = second-among S well x u v U V two t r in same-named m n t (labels.others t (λ j. loops-apart t j among)) ∙ placed-named well V.end m rep t among)
+          (Contains-append_cases (drop 1 u.fins) (drop 1 v.fins) t k)
 
-      abbrev r : EntityMap
-      r = with_loop q v.loop_ v.face p
-
-      looped : (t : Tag) → t ≢ v.loop_ → get r t ≡ get q t
-      looped t h = get_other q v.loop_ (Some made) t h
-
-      -- no attribute has come
-      pub attributes-were : (t o : Tag) (name : Name) (value : ℤ) → get r t ≡ Some (entity.Attr o name value) → get m t ≡ Some (entity.Attr o name value)
-      attributes-were t o name value is =
-          let other : t ≢ v.loop_ = λ e. let both : Some made ≡ Some (entity.Attr o name value) = sym (get_put q v.loop_ (Some made)) ∙ ap (get r) (sym e) ∙ is in absurd (cc) in
-          let then : get q t ≡ Some (entity.Attr o name value) = sym (looped t other) ∙ is in
-          elsewhere-plain q m t (entity.Attr o name value) (sym (relabels-elsewhere n q N v.loop_ labels t ∙ relinks-elsewhere m n _ _ joined t)) refl then
-
-      -- ---- and the face of x dies
-
-      module _ (w : EntityMap) (kills : Kills r killed w) where
-        spared : (t : Tag) (e : Entity) → NoneOf t killed → get r t ≡ Some e → ((o : Tag) (name : Name) (value : ℤ) → e ≡ entity.Attr o name value → NoneOf o killed) → get w t ≡ Some e
-        spared t e none is h = kills.others t none ∙ ap (unless_on_any killed) is ∙ unless-spared killed (Some e) (λ o name value same. h o name value (same_Some e (entity.Attr o name value) same))
-
-        fin_then : (t mate e vertex : Tag) → Contains N t → HasFin m t mate e vertex → HasFin r t mate e vertex
-        fin_then t mate e vertex k is =
-            let then = relabelled-has_fin n q N v.loop_ t mate e vertex labels (relinked-has_fin m n t mate e vertex (joined.fields t) is) in
-            (then.0, then.1, then.2, looped t (left_other t k) ∙ then.3)
-
-        fin_last : (t mate e vertex : Tag) → Contains N t → HasFin r t mate e vertex → HasFin w t mate e vertex
-        fin_last t mate e vertex k is = (is.0, is.1, is.2, spared t (entity.Fin is.0 is.1 is.2 mate e vertex) (left_lives t k) is.3 (λ o name value h. absurd (cc)))
-
-        -- a fin of the loop is as it was put
-        left_same : (t : Tag) → Contains N t → get w t ≡ get q t
-        left_same t k =
-            let fin = left-fin S well x u v U V two t k in
-            let then = fin_then t fin.0 fin.1 fin.2 k (rep.items t (Fin fin.0 fin.1 fin.2) fin.3) in
-            spared t (entity.Fin then.0 then.1 then.2 fin.0 fin.1 fin.2) (left_lives t k) then.3 (λ o name value h. absurd (cc)) ∙ sym then.3 ∙ looped t (left_other t k)
-
-        -- what is no fin of either loop is as it was, but for its death
-        elsewhere : (t : Tag) → NoneOf t killed → t ≢ v.loop_ → ¬ (Contains N t) → get w t ≡ unless_on_any killed (get m t)
-        elsewhere t none other k =
-            kills.others t none ∙ ap (unless_on_any killed) (looped t other ∙ labels.others t k ∙ joined.others t (
-              (λ j. outside x u.fins U.rest U.fins_are t j none.1.1.0 (λ a. k (Contains-append_left (drop 1 u.fins) (drop 1 v.fins) t a))),
-              ((λ j. outside u.mate v.fins V.rest V.fins_are t j none.1.1.1.0 (λ a. k (Contains-append_right (drop 1 u.fins) (drop 1 v.fins) t a))), tt),
-            ))
-
-        pub kef-reached : KefReached m x u v w
-        kef-reached = record {
-          ring = ring-same q w N named_ring left_same;
-          named = λ t k. same-named q w t (left_same t k) ∙ relabelled-named n q N v.loop_ t labels joined_ring k;
-          loop_is = spared v.loop_ made (loop-lives S well x u v U V two) (get_put q v.loop_ (Some made)) (λ o name value h. absurd (cc)) ∙ ap (λ ts. Some (entity.Loop v.face (first_tag (from_least ts)) None)) named-ring_at;
-          fins = λ t mate e vertex k is. fin_last t mate e vertex k (fin_then t mate e vertex k is);
-          dead = kills.dead;
-          kept = λ t none other k h. elsewhere t none other k ∙ unless-spared killed (get m t) h;
-          lost = λ t o name value none other k is on. elsewhere t none other k ∙ ap (unless_on_any killed) is ∙ unless-owned killed o name value on;
-        }
+      pub kef-cut : IsCutOut S m q x u v (kef_loops u v) (kef_killed x u)
+      kef-cut = record {
+        elsewhere = λ t. relinks-elsewhere n q _ _ joined t ∙ relabels-elsewhere m n u.fins v.loop_ labels t;
+        outside = λ t a b. joined.others t (a, (b, tt)) ∙ labels.others t a;
+        rings = (record { ring = joined.rings.0; named = named; left = λ t k. (left-fin S well x u v U V two t k, not_x t k, not_mate t k) }, tt);
+        loops_once = (tt, tt);
+        loops_live = (loop-lives S well x u v U V two, tt);
+        no_fins = λ t c. (fin-other S well x u v U V two t c, tt);
+        both = λ l none live. (live.0, none.0);
+        once = killed-once S well x u v U V two;
+        edge = (4, omega arith, refl);
+        fins = fin-lives S well x u v U V two;
+      }

@@ -19,12 +19,14 @@ use Rattle.solid_model.specs.Places.{PlacedFin, fin_at}
 use Rattle.solid_model.specs.Kemr.{kemr}
 use Rattle.solid_model.specs.Shapes.{shape_of}
 use Rattle.solid_model.specs.Sound.{IsSound}
-use Rattle.solid_sound.proofs.lists.Neighbours.{same_itself, same_means}
-use Rattle.solid_calls.specs.LinkedRings.{IsInRing, ring_at}
+use Rattle.pk_base.proofs.Same.{same_itself, same_means}
+use Rattle.halfedge.specs.LinkedRings.{IsInRing, ring_at}
 use Rattle.solid_places.specs.declared.fins.PlacedFin.{PlacedFin as FoundFin}
 use Rattle.pk_base.specs.Building.{Building}
 use Rattle.entity_store.specs.NextTags.{TagsView, left}
-use Rattle.solid_calls.specs.Pairs.{HasTags, MayDo}
+use Rattle.solid_calls.specs.Pairs.{HasTags, MayDo, row_on}
+use Rattle.solid_model.specs.Rows.{cost_of}
+use Rattle.solid_calls.proofs.RowKinds.{cost-making, kemr-makes}
 
 -- ---- the row
 
@@ -99,27 +101,32 @@ both-found s v v' f x y e e' sound goes found other in_ring =
 
 -- ---- what is found
 
+pub kemr-cost : (m : EntityMap) (f : Tag) → IsOk (kemr (shape_of m) f) → cost_of (row_on m (Kemr f)) ≡ 1
+kemr-cost m f goes = cost-making 1 (row_on m (Kemr f)) (kemr-makes (shape_of m) f) goes
+
 -- a fin, with the fins of its loop in this map
 abbrev pub fin_read : EntityMap → Tag → FoundFin → PlacedFin
 fin_read m f x = placed_with x (ring_at m f)
 
 -- both fins were found, and the tag of the new loop was taken
 pub record IsReady (old : StoreView) (f : Tag) (x y : FoundFin) (tags : TagsView) (out : Building Tag) (j : Tag) : Type 0 where
-  pub may : MayDo old (Kemr f)
+  pub may : MayDo old (Kemr f) (left tags)
   pub has : HasTags old 1 tags out
+  pub cost : cost_of (row_on old.state.map (Kemr f)) ≡ 1
   pub hosted : (t : Tag) (i : Entity) → get old.state.map t ≡ Some i → IsHosted old.state.blocks t i
   pub at : IsOnBothSides old.state.map f (fin_read old.state.map f x) (fin_read old.state.map x.mate y)
   pub rest : List Tag
   pub taken : left tags ≡ j ∷ rest
 
 -- what views of the store say is said of the store
-pub ready-viewed : {old v w z : StoreView} {f : Tag} {tags : TagsView} {out : Building Tag} (x y : FoundFin) (j : Tag) (rest : List Tag) → MayDo old (Kemr f) → HasTags old 1 tags out
+pub ready-viewed : {old v w z : StoreView} {f : Tag} {tags : TagsView} {out : Building Tag} (x y : FoundFin) (j : Tag) (rest : List Tag) → MayDo old (Kemr f) (left tags) → HasTags old (cost_of (row_on old.state.map (Kemr f))) tags out
     → v ≡ old → w ≡ old → z ≡ old → ((t : Tag) (i : Entity) → get v.state.map t ≡ Some i → IsHosted v.state.blocks t i)
     → fin_at (shape_of w.state.map) f ≡ Ok (placed_with x (ring_at w.state.map f)) → fin_at (shape_of z.state.map) x.mate ≡ Ok (placed_with y (ring_at z.state.map x.mate))
     → IsInRing w.state.map f → left tags ≡ j ∷ rest → IsReady old f x y tags out j
-ready-viewed {old = old} {w = w} {z = z} {f = f} x y j rest may has same is_w is_z hosted found other ring taken = record {
+ready-viewed {old = old} {w = w} {z = z} {f = f} {tags = tags} {out = out} x y j rest may has same is_w is_z hosted found other ring taken = record {
   may = may;
-  has = has;
+  has = subst (λ n. HasTags old n tags out) (kemr-cost old.state.map f may.goes) has;
+  cost = kemr-cost old.state.map f may.goes;
   hosted = subst (λ (v : StoreView). (t : Tag) (i : Entity) → get v.state.map t ≡ Some i → IsHosted v.state.blocks t i) same hosted;
   at = both-found old w z f x y is_w is_z may.sound may.goes found other ring;
   rest = rest;

@@ -1,60 +1,57 @@
 -- kemr: the map that is reached, and that it is that of the shape of its row.
-use Rattle.std.proofs.Common.{◌≡◌, ◌≢◌, ℕ, ◌+◌, ⊎_elim, List, [], ◌∷◌, ◌++◌, drop, length, Option, Some, None, refl, sym, ap, subst, ◌∙◌, length-append, arith}
-use Rattle.std.specs.Prelude.{Contains, IsTrue, option_map}
+use Rattle.std.proofs.Common.{◌≡◌, ◌≢◌, ℕ, ◌+◌, ⊎_elim, List, [], ◌∷◌, ◌++◌, drop, length, take, Option, Some, None, refl, sym, ap, subst, ◌∙◌, length-append, arith}
+use Rattle.std.specs.Prelude.{Contains, IsTrue, map, option_map}
 use Rattle.std.specs.Option.{option_and_then, option_map_or}
-use Rattle.std.specs.List.{AllByRecursion, flat_map}
+use Rattle.std.specs.List.{AllByRecursion}
 use Rattle.std.specs.FinMap.{get}
-use Rattle.std.proofs.lemmas.List.Elements.{Contains-append_left, Contains-append_right}
+use Rattle.std.proofs.lemmas.List.Elements.{Contains-append_cases, Contains-append_left, Contains-append_right}
 use Rattle.pk_base.specs.declared.tag.Tag.{Tag}
 use Rattle.pk_base.specs.declared.entity.Entity.{Entity}
 use Rattle.pk_base.specs.declared.entity.Entity.TheVariants as entity
 use Rattle.pk_base.specs.declared.entity.Class.{Class}
 use Rattle.pk_base.specs.declared.entity.Class.TheVariants as class
 use Rattle.pk_model.specs.Apart.{NoRepeats}
-use Rattle.pk_model.specs.Maps.{EntityMap, with_entity}
+use Rattle.pk_model.specs.Maps.{EntityMap}
 use Rattle.pk_base.specs.declared.call.Call.TheVariants.{Kemr}
 use Rattle.pk_model.specs.Tags.{owns, tag_at}
-use Rattle.pk_model.proofs.TagLists.{NoRepeats-between}
+use Rattle.pk_model.proofs.TagLists.{NoRepeats-between, NoneOf}
 use Rattle.entity_store.specs.Store.{IsHosted}
-use Rattle.entity_store.proofs.FirstValues.{get_other, get_put}
-use Rattle.solid_model.specs.Items.{Item, Shape, item_at, class_of_item, ◌with◌}
+use Rattle.solid_model.specs.Items.{Shape, item_at, class_of_item, ◌with◌}
 use Rattle.solid_model.specs.Items.Item.{Loop, Fin}
-use Rattle.solid_model.specs.Rings.{before, first_tag, from, from_least, ring_or_lone}
+use Rattle.solid_model.specs.Rings.{before, first_tag, from, ring_or_lone}
 use Rattle.solid_model.specs.Deaths.{◌without◌}
-use Rattle.solid_model.specs.Room.{deaths, if_found, puts_of, puts_of_kemr}
+use Rattle.solid_model.specs.Room.{changed_by_kemr, dying, if_found, puts_of, tags_changed, tags_put}
+use Rattle.solid_model.specs.Rows.{cost_of}
+use Rattle.solid_edits.proofs.Dying.{dying-has}
+use Rattle.solid_edits.proofs.Stages.{Within}
+use Rattle.solid_edits.proofs.TagsPut.{AreOwners, length-with_attributes, within-changed}
 use Rattle.solid_model.specs.Places.{PlacedFin}
 use Rattle.solid_model.specs.Kemr.{kemr}
 use Rattle.solid_model.specs.Links.{links}
 use Rattle.solid_model.specs.Shapes.{shape_of}
 use Rattle.solid_model.specs.Sound.{class_at}
-use Rattle.solid_sound.proofs.lists.Cycles.{least-in}
-use Rattle.solid_sound.proofs.lists.Turned.{turned-back, turned-in}
+use Rattle.solid_model.proofs.lists.Turned.{turned-back, turned-in}
 use Rattle.solid_sound.proofs.rows.Asked.{free_item}
-use Rattle.solid_sound.proofs.lists.Neighbours.{NoneOf}
 use Rattle.solid_sound.proofs.edges.EdgeDeaths.{edge_of_class}
 use Rattle.solid_sound.proofs.shapes.Edits.{class_apart}
 use Rattle.solid_sound.proofs.edges.Ends.{FinIn, fin-well}
-use Rattle.solid_sound.proofs.shapes.FinRings.{lone_for, ring_or_lone-is}
 use Rattle.solid_sound.proofs.rows.KeptKemr.{kemr-keeps}
 use Rattle.solid_sound.proofs.rows.KeptRings.{face_of_class}
-use Rattle.solid_sound.proofs.shapes.Lookups.{Items, tags_in}
-use Rattle.solid_sound.proofs.shapes.Reading.{fin_in, loop-of_fin}
+use Rattle.solid_sound.proofs.shapes.Reading.{fin_in}
 use Rattle.solid_sound.proofs.rows.RowKeeps.{IsWell, Keeps, well-shape}
-use Rattle.solid_calls.specs.Attributes.{attributes_on}
-use Rattle.solid_calls.specs.LinkedRings.{FinFields, IsRing, as_fin, fin_in as fin_fields, loop_named, mate_in, next_at, prev_at, ring_at}
-use Rattle.solid_calls.specs.Pairs.{reached}
-use Rattle.solid_edits.specs.Deaths.{Kills, unless_on_any, with_attributes}
+use Rattle.halfedge.specs.LinkedRings.{FinFields, as_fin, loop_named, mate_in, ring_at}
+use Rattle.solid_calls.specs.Pairs.{reached, row_on}
+use Rattle.solid_edits.specs.Deaths.{Kills, with_attributes}
 use Rattle.solid_edits.specs.EditedLoops.{HasParted, fins_behind, fins_between, loop_from}
-use Rattle.solid_calls.proofs.Deaths.{deaths-of}
-use Rattle.solid_calls.proofs.LinkedRings.{ring-kept, ring-least}
-use Rattle.solid_calls.proofs.Represented.{Represents, Shows, represented, represents-sound}
-use Rattle.solid_edits.proofs.WrittenMaps.{edited}
+use Rattle.solid_calls.proofs.Represented.{Represents, represented, represents-sound}
+use Rattle.solid_edits.proofs.RemovedEdge.{IsCutOut, PutLoop, cut-attributes, cut-represents, loop_item, with_loops}
+use Rattle.solid_edits.proofs.EditedMaps.{relabelled-ring, same-named}
+use Rattle.solid_edits.proofs.PlacedFins.{placed-named}
 use Rattle.solid_edits.proofs.PartedRings.{behind-within, between-within, parts-once}
-use Rattle.solid_edits.proofs.KilledMaps.{GainsNoAttribute, unless-fin, unless-plain}
-use Rattle.solid_edits.proofs.LoopsAnew.{loop_from-is}
-use Rattle.solid_edits.proofs.PlacedAnew.{IsSameElsewhere, elsewhere-plain, relabels-elsewhere, relabels-links, relabels-named, relinks-elsewhere, relinks-named, unplaced}
-use Rattle.list_facts.proofs.Elements.{Contains-first, Contains-later, Contains-cases, Contains-only}
-use Rattle.list_facts.proofs.Each.{ByRecursion-contains, ByRecursion-at}
+use Rattle.solid_edits.proofs.KilledMaps.{GainsNoAttribute}
+use Rattle.solid_edits.proofs.PlacedAnew.{relabels-elsewhere, relabels-named, relinks-elsewhere, relinks-named}
+use Rattle.list_facts.proofs.Elements.{Contains-first, Contains-later, Contains-cases}
+use Rattle.list_facts.proofs.Each.{ByRecursion-at}
 use Rattle.euler_kill.proofs.KemrFound.{cut_row, kemr-is, IsOnBothSides}
 
 module _ (m : EntityMap) (f : Tag) (u w : PlacedFin) (at : IsOnBothSides m f u w) where
@@ -144,50 +141,55 @@ module _ (m : EntityMap) (f : Tag) (u w : PlacedFin) (at : IsOnBothSides m f u w
   abbrev pub kemr_tags : Tag → List Tag
   kemr_tags j = with_attributes m (f ∷ u.mate ∷ u.edge ∷ []) ++ u.loop_ ∷ j ∷ ring_at m f
 
-  pub kemr-puts : (j : Tag) → puts_of S (Kemr f) ≡ length (kemr_tags j)
-  kemr-puts j =
-      let killed = f ∷ u.mate ∷ u.edge ∷ [] in
-      let once : NoRepeats killed = (((λ k. kemr-other (sym k)), (class_apart S f u.edge _ _ f_class e_class (λ k. cc), tt)), ((class_apart S u.mate u.edge _ _ m_class e_class (λ k. cc), tt), (tt, tt))) in
-      let dead = deaths-of m killed at.sound once ((class.Fin, f_class, (λ k. cc)), ((class.Fin, m_class, (λ k. cc)), ((class.Edge, e_class, (λ k. cc)), tt))) in
-      let own = length-append killed (flat_map (attributes_on m) killed) in
-      let all = length-append (with_attributes m killed) (u.loop_ ∷ j ∷ ring_at m f) in
-      let fins : length u.fins ≡ length (ring_at m f) = ap length at.ring in
-      let sum : deaths S killed + 2 + length u.fins ≡ length (kemr_tags j) = omega (arith, dead, own, all, fins) in
-      ap (if_found (puts_of_kemr S f)) at.found ∙ sum
+  abbrev dead : List Tag
+  dead = f ∷ u.mate ∷ u.edge ∷ []
 
-  -- and how many they are
-  -- what dies, the fins of the ring, and two loops
-  pub kemr-counts : puts_of S (Kemr f) ≡ 2 + length (ring_at m f) + length (with_attributes m (f ∷ u.mate ∷ u.edge ∷ []))
-  kemr-counts =
-      let puts = kemr-puts f in
-      let all = length-append (with_attributes m (f ∷ u.mate ∷ u.edge ∷ [])) (u.loop_ ∷ f ∷ ring_at m f) in
-      omega (arith, puts, all)
+  dead-once : NoRepeats dead
+  dead-once = (((λ k. kemr-other (sym k)), (class_apart S f u.edge _ _ f_class e_class (λ k. cc), tt)), ((class_apart S u.mate u.edge _ _ m_class e_class (λ k. cc), tt), (tt, tt)))
+
+  dead-own : AreOwners S dead
+  dead-own = ((class.Fin, f_class, (λ k. cc)), ((class.Fin, m_class, (λ k. cc)), ((class.Edge, e_class, (λ k. cc)), tt)))
+
+  changed : tags_changed S (Kemr f) ≡ changed_by_kemr S f u
+  changed = ap (if_found (changed_by_kemr S f)) at.found
+
+  -- how many they are: what dies, the fins of the ring, and two loops
+  pub kemr-counts : cost_of (row_on m (Kemr f)) ≡ 1 → puts_of S (Kemr f) ≡ 2 + length (ring_at m f) + length (with_attributes m dead)
+  kemr-counts cost =
+      let all : length (tags_changed S (Kemr f)) ≡ length (dying S dead ++ u.loop_ ∷ u.fins) = ap length changed in
+      let fins : length u.fins ≡ length (ring_at m f) = ap length at.ring in
+      omega (arith, cost, all, fins, length-with_attributes m dead at.sound dead-once dead-own, length-append (dying S dead) (u.loop_ ∷ u.fins))
+
+  -- and they are among what the row names
+  pub kemr-within : (j : Tag) (tags rest : List Tag) → cost_of (row_on m (Kemr f)) ≡ 1 → tags ≡ j ∷ rest → Within (kemr_tags j) (tags_put S (Kemr f) tags)
+  kemr-within j tags rest cost taken t k =
+      let here = within-changed S (Kemr f) tags (changed_by_kemr S f u) changed t in
+      let others : List Tag = u.loop_ ∷ u.fins in
+      let new : take (cost_of (row_on m (Kemr f))) tags ≡ j ∷ [] = λ i. take (cost i) (taken i) in
+      ⊎_elim {C = Contains (tags_put S (Kemr f) tags) t}
+      (λ (d : Contains (with_attributes m dead) t). here (Contains-append_left (dying S dead) others t (dying-has m dead dead-own t d)))
+      (λ (r : Contains (u.loop_ ∷ j ∷ ring_at m f) t). ⊎_elim {C = Contains (tags_put S (Kemr f) tags) t}
+      (λ (e : u.loop_ ≡ t). here (Contains-append_right (dying S dead) others t (subst (Contains others) e (Contains-first u.loop_ u.fins))))
+      (λ (q : Contains (j ∷ ring_at m f) t). ⊎_elim {C = Contains (tags_put S (Kemr f) tags) t}
+      (λ (e : j ≡ t). Contains-append_left (take (cost_of (row_on m (Kemr f))) tags) (tags_changed S (Kemr f)) t (subst (λ ts. Contains ts t) (sym new) (subst (Contains (j ∷ [])) e (Contains-first j []))))
+      (λ (c : Contains (ring_at m f) t). here (Contains-append_right (dying S dead) others t (Contains-later u.loop_ u.fins t (subst (λ ts. Contains ts t) (sym at.ring) c))))
+      (Contains-cases j (ring_at m f) t q))
+      (Contains-cases u.loop_ (j ∷ ring_at m f) t r))
+      (Contains-append_cases (with_attributes m dead) (u.loop_ ∷ j ∷ ring_at m f) t k)
 
   -- ---- the maps
 
-  -- the ring is parted into m2, and both loops are put into n
-  module _ (j : Tag) (free : get m j ≡ None) (kept off : Option Tag) (m2 n : EntityMap) (parted : HasParted m f u.mate j kept off m2)
-      (put : n ≡ with_entity (with_entity m2 u.loop_ (Some (loop_from u.face kept u.vertex))) j (Some (loop_from u.face off w.vertex))) where
+  -- the ring is parted into n
+  module _ (j : Tag) (free : get m j ≡ None) (kept off : Option Tag) (n : EntityMap) (parted : HasParted m f u.mate j kept off n) where
     abbrev A : List Tag
     A = fins_between m f u.mate
 
     abbrev B : List Tag
     B = fins_behind m f u.mate
 
-    abbrev new_l : Item
-    new_l = Loop u.face (from_least B) (lone_for B u.vertex)
-
-    abbrev new_j : Item
-    new_j = Loop u.face (from_least A) (lone_for A w.vertex)
-
-    abbrev xs : Items
-    xs = (u.loop_, new_l) ∷ (j, new_j) ∷ []
-
-    abbrev killed : List Tag
-    killed = f ∷ u.mate ∷ u.edge ∷ []
-
-    abbrev R : Shape
-    R = S with xs without killed
+    -- the loops that are put
+    abbrev pub kemr_loops : List PutLoop
+    kemr_loops = record { loop_ = u.loop_; face = u.face; fins = B; vertex = u.vertex } ∷ record { loop_ = j; face = u.face; fins = A; vertex = w.vertex } ∷ []
 
     free_j : item_at S j ≡ None
     free_j = free_item m at.sound j free
@@ -195,159 +197,76 @@ module _ (m : EntityMap) (f : Tag) (u w : PlacedFin) (at : IsOnBothSides m f u w
     not_j : (t : Tag) (c : Class) → class_at S t ≡ Some c → t ≢ j
     not_j t c h same = let both : None ≡ Some c = sym (ap (option_map class_of_item) free_j) ∙ ap (class_at S) (sym same) ∙ h in cc
 
-    l_j : u.loop_ ≢ j
-    l_j = not_j u.loop_ class.Loop l_class
-
-    -- what is no loop was not written
-    not_written : (t : Tag) (c : Class) → class_at S t ≡ Some c → c ≢ class.Loop → NoneOf t (tags_in xs)
-    not_written t c h other_class = (class_apart S t u.loop_ c class.Loop h l_class other_class, (not_j t c h, tt))
-
     fin_edge : (t : Tag) → class_at S t ≡ Some class.Fin → t ≢ u.edge
     fin_edge t h = class_apart S t u.edge class.Fin class.Edge h e_class (λ k. cc)
 
-    loop_lives : (t : Tag) → class_at S t ≡ Some class.Loop → NoneOf t killed
-    loop_lives t h = (class_apart S t f class.Loop class.Fin h f_class (λ k. cc), (class_apart S t u.mate class.Loop class.Fin h m_class (λ k. cc), (class_apart S t u.edge class.Loop class.Edge h e_class (λ k. cc), tt)))
+    loop_lives : NoneOf u.loop_ dead
+    loop_lives = (class_apart S u.loop_ f _ _ l_class f_class (λ k. cc), (class_apart S u.loop_ u.mate _ _ l_class m_class (λ k. cc), (class_apart S u.loop_ u.edge _ _ l_class e_class (λ k. cc), tt)))
 
-    new_lives : NoneOf j killed
+    new_lives : NoneOf j dead
     new_lives = ((λ k. not_j f class.Fin f_class (sym k)), ((λ k. not_j u.mate class.Fin m_class (sym k)), ((λ k. not_j u.edge class.Edge e_class (sym k)), tt)))
 
-    -- ---- what is where
+    -- ---- the fins that are left
 
-    n-old : (t : Tag) → NoneOf t (tags_in xs) → get n t ≡ get m2 t
-    n-old t none = ap (λ k. get k t) put ∙ get_other (with_entity m2 u.loop_ (Some (loop_from u.face kept u.vertex))) j (Some (loop_from u.face off w.vertex)) t none.1.0
-        ∙ get_other m2 u.loop_ (Some (loop_from u.face kept u.vertex)) t none.0
+    -- the parts of the ring, from f on
+    once : NoRepeats (f ∷ A ++ u.mate ∷ B)
+    once = parts-once m f u.mate at.in_ring kemr-among kemr-other
 
-    n-loop : get n u.loop_ ≡ Some (entity.Loop u.face (first_tag (from_least B)) (lone_for B u.vertex))
-    n-loop = ap (λ k. get k u.loop_) put ∙ get_other (with_entity m2 u.loop_ (Some (loop_from u.face kept u.vertex))) j (Some (loop_from u.face off w.vertex)) u.loop_ l_j
-        ∙ get_put m2 u.loop_ (Some (loop_from u.face kept u.vertex)) ∙ ap (λ o. Some (loop_from u.face o u.vertex)) parted.kept_is ∙ ap Some (loop_from-is u.face B u.vertex)
+    a-left : (t : Tag) → Contains A t → (class_at S t ≡ Some class.Fin) × (t ≢ f) × (t ≢ u.mate)
+    a-left t k = (
+      ring_class t (between-within m f u.mate t k),
+      (λ e. ByRecursion-at (λ x. f ≢ x) (A ++ u.mate ∷ B) t once.0 (Contains-append_left A (u.mate ∷ B) t k) (sym e)),
+      (λ e. NoRepeats-between A (u.mate ∷ B) t once.1 k (subst (Contains (u.mate ∷ B)) (sym e) (Contains-first u.mate B))),
+    )
 
-    n-new : get n j ≡ Some (entity.Loop u.face (first_tag (from_least A)) (lone_for A w.vertex))
-    n-new = ap (λ k. get k j) put ∙ get_put (with_entity m2 u.loop_ (Some (loop_from u.face kept u.vertex))) j (Some (loop_from u.face off w.vertex))
-        ∙ ap (λ o. Some (loop_from u.face o w.vertex)) parted.off_is ∙ ap Some (loop_from-is u.face A w.vertex)
+    b-left : (t : Tag) → Contains B t → (class_at S t ≡ Some class.Fin) × (t ≢ f) × (t ≢ u.mate)
+    b-left t k = (
+      ring_class t (behind-within m f u.mate t k),
+      (λ e. ByRecursion-at (λ x. f ≢ x) (A ++ u.mate ∷ B) t once.0 (Contains-append_right A (u.mate ∷ B) t (Contains-later u.mate B t k)) (sym e)),
+      (λ e. ByRecursion-at (λ x. u.mate ≢ x) B t (behind_once A once.1).0 k (sym e)),
+    )
+      where
+        behind_once : (ts : List Tag) → NoRepeats (ts ++ u.mate ∷ B) → NoRepeats (u.mate ∷ B)
+        behind_once [] h = h
+        behind_once (x ∷ ts) h = behind_once ts h.1
 
-    elsewhere : (t : Tag) → NoneOf t (tags_in xs) → IsSameElsewhere m n t
-    elsewhere t none = ap (option_map unplaced) (n-old t none) ∙ relabels-elsewhere parted.cut m2 A j parted.labels t ∙ relinks-elsewhere m parted.cut _ _ parted.links t
+    b-named : (t : Tag) → Contains B t → loop_named n t ≡ Some u.loop_
+    b-named t k =
+        same-named parted.cut n t (parted.labels.others t (λ a. NoRepeats-between A (u.mate ∷ B) t once.1 a (Contains-later u.mate B t k)))
+        ∙ relinks-named m parted.cut _ _ parted.links t
+        ∙ placed-named well U.end m was t (subst (λ ts. Contains ts t) (sym at.ring) (behind-within m f u.mate t k))
 
-    -- an attribute there was one before
-    pub kemr-attribute : GainsNoAttribute m n
-    kemr-attribute o t (name, value, is) =
-        let old : NoneOf t (tags_in xs) = (
-          (λ e. let both : Some (entity.Attr o name value) ≡ Some (entity.Loop u.face (first_tag (from_least B)) (lone_for B u.vertex)) = sym is ∙ ap (get n) e ∙ n-loop in cc),
-          ((λ e. let both : Some (entity.Attr o name value) ≡ Some (entity.Loop u.face (first_tag (from_least A)) (lone_for A w.vertex)) = sym is ∙ ap (get n) e ∙ n-new in cc), tt),
-        ) in
-        (name, value, elsewhere-plain n m t (entity.Attr o name value) (sym (elsewhere t old)) refl is)
+    pub kemr-cut : IsCutOut S m n f u w kemr_loops dead
+    kemr-cut = record {
+      elsewhere = λ t. relabels-elsewhere parted.cut n A j parted.labels t ∙ relinks-elsewhere m parted.cut _ _ parted.links t;
+      outside = λ t a b.
+          let out : ¬ (Contains (ring_at m f) t) = λ k. a (subst (λ ts. Contains ts t) (sym at.ring) k) in
+          parted.labels.others t (λ k. out (between-within m f u.mate t k)) ∙ parted.links.others t (out, tt);
+      rings = (
+        record { ring = relabelled-ring parted.cut n A j parted.labels B parted.links.rings.1.0; named = b-named; left = b-left },
+        (record { ring = relabelled-ring parted.cut n A j parted.labels A parted.links.rings.0; named = relabels-named parted.cut n A j parted.links.rings.0 parted.labels; left = a-left }, tt),
+      );
+      loops_once = ((not_j u.loop_ class.Loop l_class, tt), (tt, tt));
+      loops_live = (loop_lives, (new_lives, tt));
+      no_fins = λ t c. (class_apart S t u.loop_ _ _ c l_class (λ k. cc), (not_j t class.Fin c, tt));
+      both = λ l none live. (none.0, (λ e. none.0 (e ∙ sym at.one)));
+      once = dead-once;
+      edge = (2, omega arith, refl);
+      fins = λ t c tf tm. (tf, (tm, (fin_edge t c, tt)));
+    }
 
-    -- the edge with its fins dies in r
-    module _ (r : EntityMap) (kills : Kills n (f ∷ u.mate ∷ u.edge ∷ []) r) where
-      -- ---- the fins that are left
+    -- no attribute has come
+    pub kemr-attribute : GainsNoAttribute m (with_loops n kemr_loops)
+    kemr-attribute = cut-attributes well was U W kemr-cut
 
-      -- the parts of the ring, from f on
-      once : NoRepeats (f ∷ A ++ u.mate ∷ B)
-      once = parts-once m f u.mate at.in_ring kemr-among kemr-other
+    -- ---- the edge dies with its fins
 
-      a-lives : (t : Tag) → Contains A t → NoneOf t killed
-      a-lives t k = (
-        (λ e. ByRecursion-at (λ x. f ≢ x) (A ++ u.mate ∷ B) t once.0 (Contains-append_left A (u.mate ∷ B) t k) (sym e)),
-        ((λ e. NoRepeats-between A (u.mate ∷ B) t once.1 k (subst (Contains (u.mate ∷ B)) (sym e) (Contains-first u.mate B))), (fin_edge t (ring_class t (between-within m f u.mate t k)), tt)),
-      )
-
-      b-lives : (t : Tag) → Contains B t → NoneOf t killed
-      b-lives t k = (
-        (λ e. ByRecursion-at (λ x. f ≢ x) (A ++ u.mate ∷ B) t once.0 (Contains-append_right A (u.mate ∷ B) t (Contains-later u.mate B t k)) (sym e)),
-        ((λ e. ByRecursion-at (λ x. u.mate ≢ x) B t (behind_once A once.1).0 k (sym e)), (fin_edge t (ring_class t (behind-within m f u.mate t k)), tt)),
-      )
-        where
-          behind_once : (ts : List Tag) → NoRepeats (ts ++ u.mate ∷ B) → NoRepeats (u.mate ∷ B)
-          behind_once [] h = h
-          behind_once (x ∷ ts) h = behind_once ts h.1
-
-      not_both : (t : Tag) → Contains A t → Contains B t → ⊥
-      not_both t a b = NoRepeats-between A (u.mate ∷ B) t once.1 a (Contains-later u.mate B t b)
-
-      -- such a fin is as it was once the ring was parted
-      fields : (t : Tag) → Contains (ring_at m f) t → NoneOf t killed → fin_fields r t ≡ fin_fields m2 t
-      fields t k live = ap (option_and_then as_fin) (kills.others t live) ∙ unless-fin killed (get n t) ∙ ap (option_and_then as_fin) (n-old t (not_written t class.Fin (ring_class t k) (λ i. cc)))
-
-      links_stay : (t : Tag) → Contains (ring_at m f) t → NoneOf t killed → (next_at r t ≡ next_at parted.cut t) × (prev_at r t ≡ prev_at parted.cut t)
-      links_stay t k live =
-          let same = fields t k live in
-          let links = relabels-links parted.cut m2 A j parted.labels t in
-          (ap (option_map (λ (x : FinFields). x.next)) same ∙ links.0, ap (option_map (λ (x : FinFields). x.prev)) same ∙ links.1)
-
-      a-ring : IsRing r A
-      a-ring = ring-kept parted.cut r A parted.links.rings.0 (λ t k. links_stay t (between-within m f u.mate t k) (a-lives t k))
-
-      b-ring : IsRing r B
-      b-ring = ring-kept parted.cut r B parted.links.rings.1.0 (λ t k. links_stay t (behind-within m f u.mate t k) (b-lives t k))
-
-      a-named : (t : Tag) → Contains A t → loop_named r t ≡ Some j
-      a-named t k = ap (option_map (λ (x : FinFields). x.loop_)) (fields t (between-within m f u.mate t k) (a-lives t k)) ∙ relabels-named parted.cut m2 A j parted.links.rings.0 parted.labels t k
-
-      b-named : (t : Tag) → Contains B t → loop_named r t ≡ Some u.loop_
-      b-named t k =
-          let there = behind-within m f u.mate t k in
-          let old : loop_named m t ≡ Some u.loop_ = ByRecursion-at (λ x. loop_named m x ≡ Some u.loop_) U.end.list t (was.items u.loop_ _ U.end.loop_is).2 (in-loop t there) in
-          ap (option_map (λ (x : FinFields). x.loop_)) (fields t there (b-lives t k))
-          ∙ ap (λ (e : Option Entity). option_map (λ (x : FinFields). x.loop_) (option_and_then as_fin e)) (parted.labels.others t (λ a. not_both t a k))
-          ∙ relinks-named m parted.cut _ _ parted.links t ∙ old
-
-      -- ---- what is written
-
-      loop_shown : Shows R r u.loop_ new_l
-      loop_shown = (
-        kills.others u.loop_ (loop_lives u.loop_ l_class) ∙ ap (unless_on_any killed) n-loop ∙ unless-plain killed (entity.Loop u.face (first_tag (from_least B)) (lone_for B u.vertex)) (λ o. refl),
-        ring-least r B b-ring,
-        ByRecursion-contains (λ t. loop_named r t ≡ Some u.loop_) (from_least B) (λ t k. b-named t (least-in t B k)),
-      )
-
-      new_shown : Shows R r j new_j
-      new_shown = (
-        kills.others j new_lives ∙ ap (unless_on_any killed) n-new ∙ unless-plain killed (entity.Loop u.face (first_tag (from_least A)) (lone_for A w.vertex)) (λ o. refl),
-        ring-least r A a-ring,
-        ByRecursion-contains (λ t. loop_named r t ≡ Some j) (from_least A) (λ t k. a-named t (least-in t A k)),
-      )
-
-      shown : (t : Tag) (x : Item) → Contains xs (t, x) → Shows R r t x
-      shown t x k = ⊎_elim
-          (λ (e : (u.loop_, new_l) ≡ (t, x)). subst (λ (y : Tag × Item). Shows R r y.0 y.1) e loop_shown)
-          (λ (c : Contains ((j, new_j) ∷ []) (t, x)). subst (λ (y : Tag × Item). Shows R r y.0 y.1) (Contains-only (j, new_j) (t, x) c) new_shown)
-          (Contains-cases (u.loop_, new_l) ((j, new_j) ∷ []) (t, x) k)
-
-      -- ---- what stays
-
-      other_loops : (l face : Tag) (fins : List Tag) (vertex : Option Tag) → item_at S l ≡ Some (Loop face fins vertex) → NoneOf l (tags_in xs) → NoneOf l killed
-          → (t : Tag) → Contains fins t → NoneOf t killed × (get n t ≡ get m t)
-      other_loops l face fins vertex is none live t k =
-          let outside : ¬ (Contains (ring_at m f) t) = λ i. none.0 (sym (loop-of_fin S well.written well.sound l face fins vertex is t k) ∙ loop-of_fin S well.written well.sound u.loop_ u.face U.end.list U.end.lone U.end.loop_is t (in-loop t i)) in
-          let fin : class_at S t ≡ Some class.Fin = ap (option_map class_of_item) (fin_in S well.written well.sound l face fins vertex is t k).3 in
-          let same : get n t ≡ get m t = n-old t (not_written t class.Fin fin (λ i. cc)) ∙ parted.labels.others t (λ a. outside (between-within m f u.mate t a)) ∙ parted.links.others t (outside, tt) in
-          (((λ e. outside (subst (Contains (ring_at m f)) (sym e) kemr-first)), ((λ e. outside (subst (Contains (ring_at m f)) (sym e) kemr-among)), (fin_edge t fin, tt))), same)
-
-      other_edges : (t mate edge vertex : Tag) → item_at S t ≡ Some (Fin mate edge vertex) → NoneOf edge killed → NoneOf t (tags_in xs) × NoneOf t killed
-      other_edges t mate edge vertex is live =
-          let fin : class_at S t ≡ Some class.Fin = ap (option_map class_of_item) is in
-          let same_edge : (a b c e : Tag) → t ≡ a → item_at S a ≡ Some (Fin b e c) → edge ≡ e =
-          λ a b c e same a_is. let both : Some (Fin mate edge vertex) ≡ Some (Fin b e c) = sym is ∙ ap (item_at S) same ∙ a_is in cc in (
-            not_written t class.Fin fin (λ i. cc),
-            ((λ e. live.1.1.0 (same_edge f u.mate u.vertex u.edge e U.fin_is)), ((λ e. live.1.1.0 (same_edge u.mate w.mate w.vertex w.edge e W.fin_is ∙ edge-of_mate)), (fin_edge t fin, tt))),
-          )
-
-      -- ---- all
-
-      kemr-represents : Represents R r
-      kemr-represents = edited S m n r xs killed well was ((l_j, tt), (tt, tt))
-          (((λ k. kemr-other (sym k)), (class_apart S f u.edge _ _ f_class e_class (λ k. cc), tt)), ((class_apart S u.mate u.edge _ _ m_class e_class (λ k. cc), tt), (tt, tt)))
-          (not_written f _ f_class (λ k. cc), (not_written u.mate _ m_class (λ k. cc), (not_written u.edge _ e_class (λ k. cc), tt)))
-          ((λ k. cc), ((λ k. cc), tt)) kills elsewhere other_loops other_edges shown
-
+    module _ (r : EntityMap) (kills : Kills (with_loops n kemr_loops) dead r) where
       -- the shape that the row reaches
-      row_shape : (S with (u.loop_, ring_or_lone u.face (drop 1 (from u.mate u.fins)) u.vertex) ∷ (j, ring_or_lone u.face (drop 1 (before u.mate u.fins)) w.vertex) ∷ [] without killed) ≡ R
-      row_shape =
-          let l_is : ring_or_lone u.face (drop 1 (from u.mate u.fins)) u.vertex ≡ new_l = ap (λ ts. ring_or_lone u.face (drop 1 (from u.mate ts)) u.vertex) at.ring ∙ ring_or_lone-is u.face B u.vertex in
-          let j_is : ring_or_lone u.face (drop 1 (before u.mate u.fins)) w.vertex ≡ new_j = ap (λ ts. ring_or_lone u.face (drop 1 (before u.mate ts)) w.vertex) at.ring ∙ ring_or_lone-is u.face A w.vertex in
-          λ i. S with (u.loop_, l_is i) ∷ (j, j_is i) ∷ [] without killed
+      row_shape : (S with (u.loop_, ring_or_lone u.face (drop 1 (from u.mate u.fins)) u.vertex) ∷ (j, ring_or_lone u.face (drop 1 (before u.mate u.fins)) w.vertex) ∷ [] without dead) ≡ (S with map loop_item kemr_loops without dead)
+      row_shape = ap (λ ts. S with (u.loop_, ring_or_lone u.face (drop 1 (from u.mate ts)) u.vertex) ∷ (j, ring_or_lone u.face (drop 1 (before u.mate ts)) w.vertex) ∷ [] without dead) at.ring
 
-      kemr-well : IsWell R
+      kemr-well : IsWell (S with map loop_item kemr_loops without dead)
       kemr-well =
           let free_tag : item_at S (tag_at (j ∷ []) 0) ≡ None = free_j in
           let keeps : Keeps (j ∷ []) (cut_row S f u w) = subst (Keeps (j ∷ [])) (kemr-is S f u w at.found at.other at.one) (kemr-keeps S (j ∷ []) f well (λ k. free_tag)) in
@@ -356,5 +275,5 @@ module _ (m : EntityMap) (f : Tag) (u w : PlacedFin) (at : IsOnBothSides m f u w
       -- the map is that of the shape reached
       pub kemr-reached : (tags more : List Tag) → tags ≡ j ∷ more → r ≡ links (reached S tags (kemr S f))
       kemr-reached tags more is =
-          let shape : reached S tags (kemr S f) ≡ R = ap (reached S tags) (kemr-is S f u w at.found at.other at.one) ∙ ap (λ ts. reached S ts (cut_row S f u w)) is ∙ row_shape in
-          represented R r kemr-well kemr-represents ∙ ap links (sym shape)
+          let shape : reached S tags (kemr S f) ≡ (S with map loop_item kemr_loops without dead) = ap (reached S tags) (kemr-is S f u w at.found at.other at.one) ∙ ap (λ ts. reached S ts (cut_row S f u w)) is ∙ row_shape in
+          represented (S with map loop_item kemr_loops without dead) r kemr-well (cut-represents well was U W kemr-cut r kills) ∙ ap links (sym shape)

@@ -1,5 +1,5 @@
 -- kev: what it finds before it changes anything, its row, its room, and why it is refused.
-use Rattle.std.proofs.Common.{◌≡◌, ◌≢◌, Bool, true, false, not, List, [], ◌∷◌, ◌++◌, drop, Option, Some, None, Ok, Err, refl, sym, ap, subst, ◌∙◌, append-nil, ◌+◌, length, length-append, arith, ℕ, true≢false}
+use Rattle.std.proofs.Common.{◌≡◌, ◌≢◌, ⊎_elim, Bool, true, false, not, List, [], ◌∷◌, ◌++◌, drop, Option, Some, None, Ok, Err, refl, sym, ap, subst, ◌∙◌, append-nil, ◌+◌, length, length-append, arith, ℕ, true≢false}
 use Rattle.std.specs.Prelude.{Contains, IsOk, IsSome, option_map}
 use Rattle.std.specs.Option.{option_and_then, option_map_or}
 use Rattle.std.proofs.lemmas.Option.{same_Some}
@@ -10,22 +10,25 @@ use Rattle.pk_model.specs.Maps.{EntityMap}
 use Rattle.pk_model.specs.Step.{◌>>=◌}
 use Rattle.solid_model.specs.Items.{Shape, item_at, ◌with◌, Item, class_of_item}
 use Rattle.solid_model.specs.Items.Item.{Fin}
-use Rattle.solid_model.specs.Rings.{before, from, next_in, ring_or_lone, written_from}
+use Rattle.solid_model.specs.Rings.{before, ends_of, from, last_of, next_in, previous_in, ring_or_lone}
 use Rattle.solid_model.specs.Deaths.{◌without◌}
-use Rattle.solid_model.specs.Rows.{Row, changes, refuse_where, ◌>>◌}
+use Rattle.solid_model.specs.Rows.{Row, changes, refuse_where, ◌>>◌, cost_of}
 use Rattle.solid_model.specs.Places.{PlacedFin, fin_at, start_at, vertex_of}
 use Rattle.solid_model.specs.Shapes.{shape_of}
 use Rattle.solid_model.specs.Kev.{kev}
 use Rattle.solid_model.specs.Sound.{IsSound, class_at}
-use Rattle.solid_sound.proofs.lists.Neighbours.{head_or, not_same, parts_at, same_itself, same_means}
-use Rattle.solid_sound.proofs.shapes.Reading.{next_in-parts}
-use Rattle.solid_sound.proofs.shapes.FinRings.{RingOf, asked_fin, ring_face, ring_fins, ring_owner, ring_with}
+use Rattle.solid_model.proofs.lists.Neighbours.{head_or, parts_at}
+use Rattle.pk_base.proofs.Same.{not_same, same_itself, same_means}
+use Rattle.solid_model.proofs.Reading.{next_in-parts}
+use Rattle.solid_sound.proofs.shapes.FinRings.{asked_fin}
 use Rattle.solid_sound.proofs.rows.RowKeeps.{IsWell, well-shape}
-use Rattle.solid_calls.specs.LinkedRings.{IsInRing, IsRing, as_fin, mate_in, next_at, ring_at}
+use Rattle.halfedge.specs.LinkedRings.{IsInRing, IsRing, as_fin, mate_in, next_at, ring_at}
 use Rattle.solid_places.specs.declared.fins.PlacedFin.{PlacedFin as FoundFin}
-use Rattle.solid_calls.proofs.LinkedRings.{in-ring_starts, ring-links}
+use Rattle.halfedge.proofs.LinkedRings.{in-ring_starts, ring-links}
 use Rattle.solid_calls.proofs.Represented.{represents-sound}
-use Rattle.list_facts.proofs.Elements.{not_in_nil, Contains-first, Contains-later, Contains-only}
+use Rattle.list_facts.proofs.Elements.{not_in_nil, Contains-cases, Contains-first, Contains-later, Contains-only}
+use Rattle.std.proofs.lemmas.List.Elements.{Contains-append_cases, Contains-append_left, Contains-append_right}
+use Rattle.solid_model.proofs.lists.Cycles.{written-itself}
 use Rattle.solid_sound.proofs.rows.KeptKev.{strut-rest}
 use Rattle.std.specs.FinMap.{get}
 use Rattle.pk_base.specs.declared.entity.Class.{Class}
@@ -38,11 +41,15 @@ use Rattle.pk_base.specs.Blocks.{tag}
 use Rattle.std.specs.List.{AllByRecursion}
 use Rattle.pk_base.specs.declared.call.Call.TheVariants as call
 use Rattle.entity_store.specs.Store.{IsHosted, StoreView}
-use Rattle.solid_model.specs.Room.{deaths, if_found, puts_of, puts_of_kev}
-use Rattle.solid_model.specs.Euler.{cost_of, list_of}
+use Rattle.solid_model.specs.Room.{changed_by_kev, dying, if_found, puts_of, tags_changed, tags_put}
+use Rattle.solid_model.specs.Euler.{list_of}
 use Rattle.solid_calls.specs.Pairs.{MayDo, IsNeedOf}
-use Rattle.solid_calls.proofs.Deaths.{all_attributes, deaths-of}
+use Rattle.solid_calls.proofs.RowKinds.{kev-changes}
+use Rattle.solid_edits.proofs.Dying.{dying-has}
+use Rattle.solid_edits.proofs.Stages.{Within}
+use Rattle.solid_edits.proofs.TagsPut.{ends-beside, length-with_attributes, puts-changed, within-changed}
 use Rattle.solid_edits.specs.Deaths.{with_attributes}
+use Rattle.solid_edits.specs.EditedLoops.{fins_behind, fins_between}
 use Rattle.std.proofs.lemmas.Bool.{not-false}
 
 -- the fin as the row reads it
@@ -129,8 +136,8 @@ abbrev pub IsOwner : Shape → Tag → Type 0
 IsOwner S t = (c : Class) × (class_at S t ≡ Some c) × (c ≢ class.Attr)
 
 -- what dies: the fin, its mate, their edge and the vertex where the mate starts
-abbrev pub dying : Tag → FoundFin → FoundFin → List Tag
-dying f p w = f ∷ p.mate ∷ p.edge ∷ w.vertex ∷ []
+abbrev pub kev_killed : Tag → FoundFin → FoundFin → List Tag
+kev_killed f p w = f ∷ p.mate ∷ p.edge ∷ w.vertex ∷ []
 
 abbrev class_in : Option Item → Option Class
 class_in o = option_map class_of_item o
@@ -188,39 +195,22 @@ module _ (m0 : EntityMap) (sound : IsSound m0) (f : Tag) (p w : FoundFin) (found
     pub mate_among : Contains (ring_at m0 f) p.mate
     mate_among = subst (λ ts. Contains ts p.mate) (sym ring_is) (Contains-later f (p.mate ∷ left) p.mate (Contains-first p.mate left))
 
-    -- the ring of the loop's list
-    pub ring_of_loop : (list : List Tag) × RingOf S f p.loop_ p.face list (p.mate ∷ left)
-    ring_of_loop =
-        let r = ring_with S well f p.mate p.edge p.vertex f_is in
-        let x = asked_fin S f (item_at S f) (read_fin m0 f p) found in
-        let rest = drop 1 (written_from f r.2) in
-        let l_is : r.0 ≡ p.loop_ = sym (ring_owner S well f r.0 r.1 r.2 rest r.3 f r.3.among) ∙ ap (λ (q : PlacedFin). q.loop_) x.4 in
-        let face_is : r.1 ≡ p.face = sym (ring_face S well f r.0 r.1 r.2 rest r.3) ∙ ap (λ (q : PlacedFin). q.face) x.4 in
-        let fins_are : f ∷ rest ≡ f ∷ p.mate ∷ left = sym (ring_fins S well f r.0 r.1 r.2 rest r.3) ∙ ap (λ (q : PlacedFin). q.fins) x.4 ∙ ring_is in
-        let rest_is : rest ≡ p.mate ∷ left = ap (drop 1) fins_are in
-        (r.2, subst (λ (q : Tag × Tag × List Tag). RingOf S f q.0 q.1 r.2 q.2) (λ i. (l_is i, face_is i, rest_is i)) r.3)
-
     cut : (before p.mate (f ∷ p.mate ∷ left) ≡ f ∷ []) × (from p.mate (f ∷ p.mate ∷ left) ≡ p.mate ∷ left)
     cut = parts_at p.mate (f ∷ []) left (λ k. mate_other (sym (Contains-only f p.mate k)))
 
-    pub before_is : drop 1 (before (mate_in m0 f) (ring_at m0 f)) ≡ []
-    before_is = (λ i. drop 1 (before (mate_found i) (ring_is i))) ∙ ap (drop 1) cut.0
+    -- nothing stands between the two, and the rest behind them
+    pub between_is : fins_between m0 f p.mate ≡ []
+    between_is = ap (λ ts. drop 1 (before p.mate ts)) ring_is ∙ ap (drop 1) cut.0
 
-    pub from_is : drop 1 (from (mate_in m0 f) (ring_at m0 f)) ≡ left
-    from_is = (λ i. drop 1 (from (mate_found i) (ring_is i))) ∙ ap (drop 1) cut.1
-
-    -- what comes after the mate
-    pub after_mate : (next : Tag) → next_at m0 p.mate ≡ Some next → next ≡ head_or p.mate (left ++ f ∷ [])
-    after_mate next is =
-        next-is m0 (f ∷ p.mate ∷ left) p.mate next ring_linked (Contains-later f (p.mate ∷ left) p.mate (Contains-first p.mate left)) is
-        ∙ next_in-parts p.mate (f ∷ []) left (λ k. mate_other (sym (Contains-only f p.mate k)))
+    pub behind_is : fins_behind m0 f p.mate ≡ left
+    behind_is = ap (λ ts. drop 1 (from p.mate ts)) ring_is ∙ ap (drop 1) cut.1
 
   -- ---- what it needs, or that it is refused
 
-  pub dying-are_once : NoRepeats (dying f p w)
+  pub dying-are_once : NoRepeats (kev_killed f p w)
   dying-are_once = dying-once S well f p.mate p.edge p.vertex w.vertex f_is mate_is
 
-  pub dying-are_owners : AllByRecursion (IsOwner S) (dying f p w)
+  pub dying-are_owners : AllByRecursion (IsOwner S) (kev_killed f p w)
   dying-are_owners =
       let names = well.sound.names in (
         (class.Fin, ap class_in f_is, (λ k. cc)),
@@ -230,17 +220,41 @@ module _ (m0 : EntityMap) (sound : IsSound m0) (f : Tag) (p w : FoundFin) (found
         ),
       )
 
-  -- how many tags are put
-  pub kev-puts : puts_of S (call.Kev f) ≡ 7 + length (all_attributes m0 (dying f p w))
-  kev-puts =
-      let here : puts_of S (call.Kev f) ≡ puts_of_kev S f (read_fin m0 f p) = ap (if_found (puts_of_kev S f)) found in
-      let start : puts_of_kev S f (read_fin m0 f p) ≡ deaths S (dying f p w) + 3 = ap (λ v. deaths S (f ∷ p.mate ∷ p.edge ∷ v ∷ []) + 3) (start-found S p.mate f p.edge w.vertex mate_is) in
-      let die = deaths-of m0 (dying f p w) sound dying-are_once dying-are_owners in
-      omega (arith, here, start, die)
+  -- the tags that are put
+  abbrev changed : List Tag
+  changed = dying S (kev_killed f p w) ++ p.loop_ ∷ next_in (ring_at m0 f) p.mate ∷ previous_in (ring_at m0 f) f ∷ []
+
+  changed_is : tags_changed S (call.Kev f) ≡ changed
+  changed_is =
+      ap (if_found (changed_by_kev S f)) found
+      ∙ ap (λ v. dying S (f ∷ p.mate ∷ p.edge ∷ v ∷ []) ++ p.loop_ ∷ next_in (ring_at m0 f) p.mate ∷ previous_in (ring_at m0 f) f ∷ []) (start-found S p.mate f p.edge w.vertex mate_is)
 
   -- what dies, and three more
-  pub kev-counts : puts_of S (call.Kev f) ≡ 3 + length (with_attributes m0 (dying f p w))
-  kev-counts = let all = kev-puts in omega (arith, all, length-append (dying f p w) (all_attributes m0 (dying f p w)))
+  kev-counts : puts_of S (call.Kev f) ≡ 3 + length (with_attributes m0 (kev_killed f p w))
+  kev-counts =
+      let all = puts-changed S (call.Kev f) changed (kev-changes S f) changed_is in
+      let dead = length-with_attributes m0 (kev_killed f p w) sound dying-are_once dying-are_owners in
+      omega (arith, all, dead, length-append (dying S (kev_killed f p w)) (p.loop_ ∷ next_in (ring_at m0 f) p.mate ∷ previous_in (ring_at m0 f) f ∷ []))
+
+  -- the loop, the fins that were beside the edge, and what dies
+  pub kev-within : (ring : IsInRing m0 f) → next_in (ring_at m0 f) f ≡ p.mate
+      → Within (p.loop_ ∷ ends_of (drop 2 (ring_at m0 f)) ++ with_attributes m0 (kev_killed f p w)) (tags_put S (call.Kev f) [])
+  kev-within ring strut t k =
+      let A : List Tag = drop 2 (ring_at m0 f) in
+      let killed = kev_killed f p w in
+      let here = within-changed S (call.Kev f) [] changed changed_is t in
+      let beside : List Tag = next_in (ring_at m0 f) p.mate ∷ previous_in (ring_at m0 f) f ∷ [] in
+      let others : List Tag = p.loop_ ∷ beside in
+      let is = ring_is ring strut in
+      let next = ap (λ ts. next_in ts p.mate) is ∙ next_in-parts p.mate (f ∷ []) A (λ j. mate_other (sym (Contains-only f p.mate j))) in
+      let prev = ap (λ ts. previous_in ts f) is ∙ ap (last_of f) (written-itself f (p.mate ∷ A)) in
+      here (⊎_elim {C = Contains changed t}
+      (λ (e : p.loop_ ≡ t). Contains-append_right (dying S killed) others t (subst (Contains others) e (Contains-first p.loop_ beside)))
+      (λ (r : Contains (ends_of A ++ with_attributes m0 killed) t). ⊎_elim {C = Contains changed t}
+      (λ (a : Contains (ends_of A) t). Contains-append_right (dying S killed) others t (Contains-later p.loop_ beside t (ends-beside p.mate A (f ∷ []) (next_in (ring_at m0 f) p.mate) (previous_in (ring_at m0 f) f) next prev t a)))
+      (λ (d : Contains (with_attributes m0 killed) t). Contains-append_left (dying S killed) others t (dying-has m0 killed dying-are_owners t d))
+      (Contains-append_cases (ends_of A) (with_attributes m0 killed) t r))
+      (Contains-cases p.loop_ (ends_of A ++ with_attributes m0 killed) t k))
 
   module _ (ring : IsInRing m0 f) (next : Tag) (is : next_at m0 f ≡ Some next) where
     next_same : next ≡ next_in (ring_at m0 f) f
@@ -253,7 +267,7 @@ module _ (m0 : EntityMap) (sound : IsSound m0) (f : Tag) (p w : FoundFin) (found
         true≢false (sym other ∙ ap not same))
 
     -- the mate comes next
-    pub kev-needs : not (same_tag next p.mate) ≡ false → (dead : ℕ) → dead ≡ length (with_attributes m0 (dying f p w)) → IsNeedOf m0 (call.Kev f) (record { tags = 0; changes = 3 + dead; list = 0 })
+    pub kev-needs : not (same_tag next p.mate) ≡ false → (dead : ℕ) → dead ≡ length (with_attributes m0 (kev_killed f p w)) → IsNeedOf m0 (call.Kev f) (record { tags = 0; changes = 3 + dead; list = 0 })
     kev-needs strut dead dead_is =
         let same = same_means next p.mate (not-false _ strut) in
         let row : kev S f ≡ changes (kev_changes S f (read_fin m0 f p) (read_fin m0 p.mate w)) = kev-row S f (read_fin m0 f p) (read_fin m0 p.mate w) found also (sym next_same ∙ same) in
@@ -261,38 +275,27 @@ module _ (m0 : EntityMap) (sound : IsSound m0) (f : Tag) (p w : FoundFin) (found
           goes = subst IsOk (sym row) refl;
           tags = sym (ap cost_of row);
           changes = omega (arith, dead_is, kev-counts);
-          list = let none : list_of (kev S f) ≡ 0 = ap list_of row in omega (arith, none);
+          list = sym (ap list_of row);
         }
 
 -- ---- what is found
 
--- the fin and its mate were found, which is a strut, and what comes after the mate
-pub record IsReady (old : StoreView) (f : Tag) (p w : FoundFin) (next : Tag) : Type 0 where
-  pub may : MayDo old (call.Kev f)
+-- the fin and its mate were found, which is a strut
+pub record IsReady (old : StoreView) (f : Tag) (p w : FoundFin) : Type 0 where
+  pub may : MayDo old (call.Kev f) []
   pub hosted : (t : Tag) (x : Entity) → get old.state.map t ≡ Some x → IsHosted old.state.blocks t x
   pub found : IsFound old.state.map f p
   pub also : IsFound old.state.map p.mate w
   pub ring : IsInRing old.state.map f
-  pub next_is : next_at old.state.map p.mate ≡ Some next
 
 -- what views of the store say is said of the store
-pub mate-viewed : {old v2 v3 v4 : StoreView} (f : Tag) (p w : FoundFin) → MayDo old (call.Kev f) → v2 ≡ old → v3 ≡ old → v4 ≡ old → IsFound v2.state.map f p → IsFound v3.state.map p.mate w → IsInRing v2.state.map f → IsSome (next_at v4.state.map p.mate)
-mate-viewed {old = old} f p w may is2 is3 is4 found also ring =
-    let m0 = old.state.map in
-    let found' : IsFound m0 f p = subst (λ (v : StoreView). IsFound v.state.map f p) is2 found in
-    let also' : IsFound m0 p.mate w = subst (λ (v : StoreView). IsFound v.state.map p.mate w) is3 also in
-    let ring' : IsInRing m0 f = subst (λ (v : StoreView). IsInRing v.state.map f) is2 ring in
-    let strut = goes-strut (shape_of m0) f (read_fin m0 f p) (read_fin m0 p.mate w) found' also' may.goes in
-    subst (λ (v : StoreView). IsSome (next_at v.state.map p.mate)) (sym is4) (has-next m0 (ring_at m0 f) p.mate ring'.ring (mate_among m0 may.sound f p w found' also' ring' strut))
-
-pub ready-viewed : {old v1 v2 v3 v4 : StoreView} {f next : Tag} (p w : FoundFin) → MayDo old (call.Kev f) → v1 ≡ old → v2 ≡ old → v3 ≡ old → v4 ≡ old
+pub ready-viewed : {old v1 v2 v3 : StoreView} {f : Tag} (p w : FoundFin) → MayDo old (call.Kev f) [] → v1 ≡ old → v2 ≡ old → v3 ≡ old
     → ((t : Tag) (x : Entity) → get v1.state.map t ≡ Some x → IsHosted v1.state.blocks t x)
-    → IsFound v2.state.map f p → IsFound v3.state.map p.mate w → IsInRing v2.state.map f → next_at v4.state.map p.mate ≡ Some next → IsReady old f p w next
-ready-viewed {f = f} {next = next} p w may is1 is2 is3 is4 hosted found also ring next_is = record {
+    → IsFound v2.state.map f p → IsFound v3.state.map p.mate w → IsInRing v2.state.map f → IsReady old f p w
+ready-viewed {f = f} p w may is1 is2 is3 hosted found also ring = record {
   may = may;
   hosted = subst (λ (v : StoreView). (t : Tag) (x : Entity) → get v.state.map t ≡ Some x → IsHosted v.state.blocks t x) is1 hosted;
   found = subst (λ (v : StoreView). IsFound v.state.map f p) is2 found;
   also = subst (λ (v : StoreView). IsFound v.state.map p.mate w) is3 also;
   ring = subst (λ (v : StoreView). IsInRing v.state.map f) is2 ring;
-  next_is = subst (λ (v : StoreView). next_at v.state.map p.mate ≡ Some next) is4 next_is;
 }

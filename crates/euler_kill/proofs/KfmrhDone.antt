@@ -1,5 +1,5 @@
 -- kfmrh: what each step asks for, and that the last one does what the row says.
-use Rattle.std.proofs.Common.{◌≡◌, ◌≢◌, List, [], ◌∷◌, sym, ap, subst, ◌∙◌, arith}
+use Rattle.std.proofs.Common.{◌≡◌, ◌≢◌, List, [], ◌∷◌, ◌++◌, sym, ap, subst, ◌∙◌, arith}
 use Rattle.std.specs.Prelude.{negsuc, Contains, IsTrue, option_map}
 use Rattle.std.specs.FinMap.{get}
 use Rattle.pk_base.specs.declared.call.Call.TheVariants.{Kfmrh}
@@ -8,23 +8,25 @@ use Rattle.pk_model.specs.Maps.{EntityMap, with_entity}
 use Rattle.pk_model.specs.Tags.{owns}
 use Rattle.entity_store.specs.Recording.{HasRoomFor}
 use Rattle.entity_store.specs.Store.{Stored, StoreView}
+use Rattle.std.proofs.lemmas.List.Elements.{Contains-append_left, Contains-append_right}
+use Rattle.solid_model.specs.Room.{tags_put}
 use Rattle.solid_model.specs.Shapes.{shape_of}
 use Rattle.solid_sound.proofs.rows.KeptKfmrh.{kfmrh-keeps}
 use Rattle.solid_sound.proofs.rows.RowKeeps.{well-shape}
 use Rattle.solid_calls.specs.Attributes.{attributes_on}
 use Rattle.solid_calls.specs.Pairs.{HasDone}
-use Rattle.solid_calls.specs.Room.{HasRoomForThese, PutsAmong}
+use Rattle.entity_store.specs.Room.{HasRoomForThese, PutsAmong}
 use Rattle.solid_calls.proofs.Represented.{represents-sound}
-use Rattle.solid_calls.proofs.Room.{records-of, room-part}
+use Rattle.entity_store.proofs.Room.{puts-wider, room-part}
 use Rattle.solid_calls.proofs.Sizes.{q-fits}
 use Rattle.solid_places.specs.declared.faces.PlacedFace.{PlacedFace as FoundFace}
 use Rattle.solid_edits.specs.Deaths.{Dies}
 use Rattle.solid_edits.specs.Faces.{IsLoop, IsShell, of_face, with_more}
 use Rattle.solid_edits.proofs.Going.{done}
-use Rattle.solid_edits.proofs.Stages.{IsStage, stage-none, stage-owns, stage-room_one, stage-then, only-put}
+use Rattle.solid_edits.proofs.Stages.{IsStage, Within, stage-none, stage-owns, stage-room_one, stage-then, only-put}
 use Rattle.list_facts.proofs.Elements.{Contains-first, Contains-later, Contains-only}
 use Rattle.euler_kill.proofs.KfmrhReached.{face-killed, keep-has, keep_l, loop-has, loop-then, shell-then}
-use Rattle.euler_kill.proofs.KfmrhFound.{kfmrh-dead, kfmrh-puts, kfmrh-room, IsReady}
+use Rattle.euler_kill.proofs.KfmrhFound.{kfmrh-within, IsReady}
 
 module _ {s0 : StoreView} {keep kill : Tag} {p : FoundFace} (r : IsReady s0 keep kill p) where
   abbrev m : EntityMap
@@ -38,22 +40,28 @@ module _ {s0 : StoreView} {keep kill : Tag} {p : FoundFace} (r : IsReady s0 keep
 
   -- all the tags that are put
   abbrev all : List Tag
-  all = kill ∷ l ∷ shell ∷ attributes_on m kill
+  all = (kill ∷ attributes_on m kill) ++ l ∷ shell ∷ []
+
+  are_put : Within all (tags_put (shape_of m) (Kfmrh keep kill) [])
+  are_put = kfmrh-within m keep kill p r.found shell l r.goes.kill_is
 
   room : HasRoomForThese s0.recording all
-  room = kfmrh-room s0 r.may.sound keep kill l shell r.goes r.may.room
+  room = room-part s0.recording _ all r.may.room are_put
+
+  has_dead : Within (kill ∷ attributes_on m kill) all
+  has_dead = Contains-append_left (kill ∷ attributes_on m kill) (l ∷ shell ∷ [])
 
   has_loop : Contains all l
-  has_loop = Contains-later kill (l ∷ shell ∷ attributes_on m kill) l (Contains-first l (shell ∷ attributes_on m kill))
+  has_loop = Contains-append_right (kill ∷ attributes_on m kill) (l ∷ shell ∷ []) l (Contains-first l (shell ∷ []))
 
   has_shell : Contains all shell
-  has_shell = Contains-later kill (l ∷ shell ∷ attributes_on m kill) shell (Contains-later l (shell ∷ attributes_on m kill) shell (Contains-first shell (attributes_on m kill)))
+  has_shell = Contains-append_right (kill ∷ attributes_on m kill) (l ∷ shell ∷ []) shell (Contains-later l (shell ∷ []) shell (Contains-first shell []))
 
   pub kill-owned : IsTrue (owns s0.state.blocks kill)
   kill-owned = (r.known.hosted kill _ ((represents-sound m r.may.sound).items kill _ r.goes.kill_is)).owned
 
   pub kill-room : HasRoomForThese s0.recording (kill ∷ attributes_on m kill)
-  kill-room = room-part s0.recording all (kill ∷ attributes_on m kill) room (kfmrh-dead kill l shell (attributes_on m kill))
+  kill-room = room-part s0.recording all (kill ∷ attributes_on m kill) room has_dead
 
   -- ---- the face dies
 
@@ -62,7 +70,7 @@ module _ {s0 : StoreView} {keep kill : Tag} {p : FoundFace} (r : IsReady s0 keep
     n = s1.state.map
 
     one : IsStage all s0 s1
-    one = stage-then all (kill ∷ attributes_on m kill) s0 s0 s1 (stage-none all s0) (kfmrh-dead kill l shell (attributes_on m kill)) state1 puts1
+    one = stage-then all (kill ∷ attributes_on m kill) s0 s0 s1 (stage-none all s0) has_dead state1 puts1
 
     pub loop-is : IsLoop (get n l)
     loop-is = subst IsLoop (sym (loop-then m n r.may.sound keep kill l shell dies r.goes)) tt
@@ -109,4 +117,4 @@ module _ {s0 : StoreView} {keep kill : Tag} {p : FoundFace} (r : IsReady s0 keep
             let counted = state3 ∙ ap (λ (s : Stored). record s { map = with_entity s.map shell (option_map (with_more (negsuc 0)) (get s.map shell)) }) ringed in
             done s0 s3 _ [] _ r.goes.row_is r.may.sound (omega arith) (kfmrh-keeps (shape_of m) [] keep kill (well-shape m r.may.sound))
             (counted ∙ ap (λ (k : EntityMap). record s0.state { map = k }) (face-killed m n r.may.sound keep kill l shell dies r.goes))
-            (records-of all _ s0 s3 three.puts (kfmrh-puts s0 r.may.sound keep kill l shell r.goes))
+            (puts-wider all _ s0 s3 three.puts are_put)

@@ -1,5 +1,6 @@
--- kfmrh: what it finds before it changes anything, its row and its room.
-use Rattle.std.proofs.Common.{◌≡◌, ⊎_elim, not, List, [], ◌∷◌, Option, Some, Ok, sym, ap, subst, ◌∙◌, arith, ◌+◌, ◌≤◌, length, append-nil}
+-- kfmrh: what it finds before it changes anything, its row, and what it puts.
+use Rattle.std.proofs.Common.{◌≡◌, ⊎_elim, not, List, [], ◌∷◌, ◌++◌, Option, Some, Ok, sym, ap, subst, ◌∙◌, arith, ◌+◌, length, append-nil, length-append}
+use Rattle.std.proofs.lemmas.List.Elements.{Contains-append_left, Contains-append_right, Contains-append_cases}
 use Rattle.std.specs.Prelude.{ℤ, pos, ◌-ℤ◌, IsOk, option_map, Contains}
 use Rattle.pk_base.specs.Entity.{same_tag}
 use Rattle.pk_base.specs.declared.tag.Tag.{Tag}
@@ -18,14 +19,16 @@ use Rattle.solid_model.specs.Kfmrh.{kfmrh}
 use Rattle.solid_sound.proofs.rows.RowKeeps.{IsWell, well-shape}
 use Rattle.solid_sound.proofs.rows.KeptRings.{asked_face, face_in, in_face-is}
 use Rattle.solid_edits.proofs.Going.{goes-on, goes-past}
-use Rattle.list_facts.proofs.Elements.{Contains-first, Contains-later, Contains-cases}
+use Rattle.list_facts.proofs.Elements.{Contains-first}
 use Rattle.pk_base.specs.declared.entity.Class.TheVariants as class
-use Rattle.entity_store.specs.Recording.{room_left}
-use Rattle.solid_model.specs.Room.{deaths}
+use Rattle.solid_model.specs.Room.{changed_by_kfmrh, dying, if_found, puts_of, tags_changed, tags_put}
 use Rattle.solid_calls.specs.Attributes.{attributes_on}
-use Rattle.solid_calls.specs.Room.{HasRoomForThese}
-use Rattle.solid_calls.proofs.Deaths.{deaths-of}
-use Rattle.solid_calls.proofs.Room.{room-of_length}
+use Rattle.solid_calls.proofs.Deaths.{all_attributes, length-dying}
+use Rattle.solid_calls.proofs.RowKinds.{kfmrh-changes}
+use Rattle.solid_edits.proofs.KilledMaps.{death-among}
+use Rattle.solid_edits.proofs.Stages.{Within}
+use Rattle.solid_edits.proofs.TagsPut.{AreOwners, puts-changed, within-changed}
+use Rattle.solid_edits.proofs.Dying.{dying-has}
 use Rattle.pk_base.specs.declared.call.Call.TheVariants.{Kfmrh}
 use Rattle.pk_model.specs.Tags.{AreInRange, Ascends}
 use Rattle.solid_calls.specs.Pairs.{MayDo}
@@ -86,50 +89,54 @@ kills S well keep kill p at h =
     let moved : KillsFace S keep kill b.found.outer b.found.shell = subst (λ t. KillsFace S keep kill t b.found.shell) y.5 (subst (KillsFace S keep kill y.1) y.3 killed) in
     subst (λ (r : PlacedFace). KillsFace S keep kill r.outer r.shell) same moved
 
-pub kills-seen : (v s : StoreView) → v ≡ s → IsSound s.state.map → (keep kill : Tag) (p : PlacedFace) → face_at (shape_of v.state.map) kill ≡ Ok p → IsOk (kfmrh (shape_of s.state.map) keep kill) → KillsFace (shape_of s.state.map) keep kill p.outer p.shell
-kills-seen v s e sound keep kill p at goes =
-    kills (shape_of s.state.map) (well-shape s.state.map sound) keep kill p (subst (λ (w : StoreView). face_at (shape_of w.state.map) kill ≡ Ok p) e at) goes
+-- ---- what is put
 
--- ---- room
+-- the faces that a call that goes was asked for, as it was found
+abbrev pub found_face : FoundFace → PlacedFace
+found_face p = record { shell = p.shell; body = p.body; outer = p.outer }
 
--- the face dies, and its attributes
-pub face-deaths : (m : EntityMap) → IsSound m → (kill shell outer : Tag) → item_at (shape_of m) kill ≡ Some (Face shell outer) → deaths (shape_of m) (kill ∷ []) ≡ 1 + length (attributes_on m kill)
-face-deaths m sound kill shell outer e =
-    deaths-of m (kill ∷ []) sound (tt, tt) ((class.Face, ap (option_map class_of_item) e, λ k. cc), tt)
-    ∙ ap (λ ts. 1 + length ts) (append-nil (attributes_on m kill))
+module _ (m : EntityMap) (keep kill : Tag) (p : FoundFace) (found : face_at (shape_of m) kill ≡ Ok (found_face p)) (shell outer : Tag) (face_is : item_at (shape_of m) kill ≡ Some (Face shell outer)) where
+  abbrev S : Shape
+  S = shape_of m
 
-pub kfmrh-puts : (s : StoreView) → IsSound s.state.map → (keep kill l shell : Tag) → KillsFace (shape_of s.state.map) keep kill l shell
-    → length (kill ∷ l ∷ shell ∷ attributes_on s.state.map kill) ≤ deaths (shape_of s.state.map) (kill ∷ []) + 2
-kfmrh-puts s sound keep kill l shell x =
-    let d = face-deaths s.state.map sound kill shell l x.kill_is in
-    omega (arith, d)
+  changed : tags_changed S (Kfmrh keep kill) ≡ changed_by_kfmrh S kill (found_face p)
+  changed = ap (if_found (changed_by_kfmrh S kill)) found
 
-pub kfmrh-room : (s : StoreView) → IsSound s.state.map → (keep kill l shell : Tag) → KillsFace (shape_of s.state.map) keep kill l shell
-    → deaths (shape_of s.state.map) (kill ∷ []) + 2 ≤ room_left s.recording → HasRoomForThese s.recording (kill ∷ l ∷ shell ∷ attributes_on s.state.map kill)
-kfmrh-room s sound keep kill l shell x room =
-    let few = kfmrh-puts s sound keep kill l shell x in
-    room-of_length s.recording (kill ∷ l ∷ shell ∷ attributes_on s.state.map kill) (omega (arith, few, room))
+  owner : AreOwners S (kill ∷ [])
+  owner = ((class.Face, ap (option_map class_of_item) face_is, λ k. cc), tt)
 
--- the face and its attributes are among what is put
-pub kfmrh-dead : (kill l shell : Tag) (on : List Tag) (t : Tag) → Contains (kill ∷ on) t → Contains (kill ∷ l ∷ shell ∷ on) t
-kfmrh-dead kill l shell on t k = ⊎_elim {C = Contains (kill ∷ l ∷ shell ∷ on) t}
-    (λ (e : kill ≡ t). subst (Contains (kill ∷ l ∷ shell ∷ on)) e (Contains-first kill (l ∷ shell ∷ on)))
-    (λ (r : Contains on t). Contains-later kill (l ∷ shell ∷ on) t (Contains-later l (shell ∷ on) t (Contains-later shell on t r)))
-    (Contains-cases kill on t k)
+  -- the face with its attributes, its loop and the shell
+  pub kfmrh-within : Within ((kill ∷ attributes_on m kill) ++ p.outer ∷ p.shell ∷ []) (tags_put S (Kfmrh keep kill) [])
+  kfmrh-within t k = within-changed S (Kfmrh keep kill) [] (changed_by_kfmrh S kill (found_face p)) changed t (⊎_elim
+      (λ (l : Contains (kill ∷ attributes_on m kill) t). Contains-append_left (dying S (kill ∷ [])) (p.outer ∷ p.shell ∷ []) t
+      (dying-has m (kill ∷ []) owner t (death-among m m (kill ∷ []) kill (λ o u is. is) (Contains-first kill []) t l)))
+      (λ (r : Contains (p.outer ∷ p.shell ∷ []) t). Contains-append_right (dying S (kill ∷ [])) (p.outer ∷ p.shell ∷ []) t r)
+      (Contains-append_cases (kill ∷ attributes_on m kill) (p.outer ∷ p.shell ∷ []) t k))
+
+  pub kfmrh-counts : IsSound m → puts_of S (Kfmrh keep kill) ≡ 3 + length (attributes_on m kill)
+  kfmrh-counts sound =
+      let puts = puts-changed S (Kfmrh keep kill) (changed_by_kfmrh S kill (found_face p)) (kfmrh-changes S keep kill) changed in
+      let dead = length-dying m (kill ∷ []) sound (tt, tt) owner in
+      let same : length (all_attributes m (kill ∷ [])) ≡ length (attributes_on m kill) = ap length (append-nil (attributes_on m kill)) in
+      omega (arith, puts, dead, same, length-append (dying S (kill ∷ [])) (p.outer ∷ p.shell ∷ []))
 
 -- ---- what is found
 
 -- the call goes, and the face that dies was found
 pub record IsReady (old : StoreView) (keep kill : Tag) (p : FoundFace) : Type 0 where
-  pub may : MayDo old (Kfmrh keep kill)
+  pub may : MayDo old (Kfmrh keep kill) []
   pub known : KnowsBlocks old.state
+  pub found : face_at (shape_of old.state.map) kill ≡ Ok (found_face p)
   pub goes : KillsFace (shape_of old.state.map) keep kill p.outer p.shell
 
 -- what views of the store say is said of the store
-pub ready-viewed : {old v w : StoreView} {keep kill : Tag} (p : FoundFace) → MayDo old (Kfmrh keep kill) → v ≡ old → w ≡ old → Ascends v.state.blocks → AreInRange v.state.blocks → AreHosted v.state
-    → face_at (shape_of w.state.map) kill ≡ Ok (record { shell = p.shell; body = p.body; outer = p.outer }) → IsReady old keep kill p
-ready-viewed {old = old} {v = v} {w = w} {keep = keep} {kill = kill} p may is_v is_w ascend range hosted found = record {
-  may = may;
-  known = blocks-seen v old is_v ascend range hosted;
-  goes = kills-seen w old is_w may.sound keep kill (record { shell = p.shell; body = p.body; outer = p.outer }) found may.goes;
-}
+pub ready-viewed : {old v w : StoreView} {keep kill : Tag} (p : FoundFace) → MayDo old (Kfmrh keep kill) [] → v ≡ old → w ≡ old → Ascends v.state.blocks → AreInRange v.state.blocks → AreHosted v.state
+    → face_at (shape_of w.state.map) kill ≡ Ok (found_face p) → IsReady old keep kill p
+ready-viewed {old = old} {v = v} {w = w} {keep = keep} {kill = kill} p may is_v is_w ascend range hosted seen =
+    let found = subst (λ (z : StoreView). face_at (shape_of z.state.map) kill ≡ Ok (found_face p)) is_w seen in
+    record {
+      may = may;
+      known = blocks-seen v old is_v ascend range hosted;
+      found = found;
+      goes = kills (shape_of old.state.map) (well-shape old.state.map may.sound) keep kill (found_face p) found may.goes;
+    }

@@ -14,9 +14,10 @@ use Rattle.solid_model.specs.Deaths.{dies_with, is_attribute_of, ◌without◌}
 use Rattle.solid_model.specs.Links.{links}
 use Rattle.solid_model.specs.Shapes.{shape_of}
 use Rattle.solid_model.specs.Sound.{IsSound}
-use Rattle.solid_sound.proofs.lists.Neighbours.{is_among-in, not_among, neither_from, none-is}
+use Rattle.solid_model.proofs.lists.Neighbours.{is_among-in, not_among, neither_from, none-is}
 use Rattle.solid_sound.proofs.shapes.Lookups.{put-same, put-other, with-sorted, filter-kept}
-use Rattle.solid_sound.proofs.shapes.Found.{same_or_other, filter-none, filter-lost}
+use Rattle.pk_base.proofs.Same.{same_or_other}
+use Rattle.solid_sound.proofs.shapes.Found.{filter-none, filter-lost}
 use Rattle.solid_sound.proofs.rows.RowKeeps.{IsWell, Keeps, well-shape}
 use Rattle.solid_sound.proofs.rows.KeptRings.{apart}
 use Rattle.solid_sound.proofs.rows.KeptKfmrh.{kfmrh-keeps}

@@ -13,7 +13,7 @@ use Rattle.pk_model.specs.Maps.{EntityMap}
 use Rattle.entity_store.specs.Kids.{kid_at, kids_among, kids_of}
 use Rattle.entity_store.proofs.Live.{kid_first}
 use Rattle.pk_model.proofs.Keys.{Contains-keys}
-use Rattle.solid_sound.proofs.lists.Neighbours.{same_means}
+use Rattle.pk_base.proofs.Same.{same_means}
 use Rattle.list_facts.proofs.Elements.{not_in_nil, Contains-first, Contains-later, Contains-cases}
 
 -- the entity stands under the tag, and has this owner

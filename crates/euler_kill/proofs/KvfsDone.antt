@@ -1,6 +1,6 @@
--- kvfs: what each step asks for.
-use Rattle.std.proofs.Common.{◌≡◌, Some, None, subst, ◌∙◌}
-use Rattle.std.specs.Prelude.{ℤ, Contains}
+-- kvfs: what each step asks for, and what is put.
+use Rattle.std.proofs.Common.{◌≡◌, [], length, Some, None, sym, ap, subst, ◌∙◌}
+use Rattle.std.specs.Prelude.{ℤ}
 use Rattle.std.specs.FinMap.{get}
 use Rattle.pk_base.specs.declared.tag.Tag.{Tag}
 use Rattle.pk_base.specs.declared.entity.Entity.TheVariants as entity
@@ -10,17 +10,18 @@ use Rattle.solid_model.specs.Shapes.{shape_of}
 use Rattle.solid_model.specs.Sound.{IsSound}
 use Rattle.pk_base.specs.declared.entity.Point.{Point}
 use Rattle.solid_sound.proofs.rows.RowKeeps.{well-shape}
-use Rattle.solid_sound.proofs.rows.KeptDeaths.{in_body-among, among-in_body}
-use Rattle.solid_sound.proofs.shapes.AttributeBodies.{attribute-body}
 use Rattle.entity_store.specs.Store.{StoreView}
 use Rattle.solid_edits.specs.BareParts.{AreBareParts, tags_of_parts}
 use Rattle.solid_edits.specs.declared.bare_parts.BareParts.{BareParts}
 use Rattle.solid_edits.specs.Deaths.{with_attributes}
-use Rattle.solid_edits.proofs.KilledMaps.{IsAttributeIn, with_attributes-cases}
-use Rattle.list_facts.proofs.Each.{ByRecursion-at}
-use Rattle.solid_places.proofs.Read.{item-of}
-use Rattle.euler_kill.proofs.KvfsFound.{body-part, shell-part, face-part, loop-part, vertex-part}
 use Rattle.solid_calls.proofs.Represented.{represents-sound}
+use Rattle.pk_base.specs.declared.call.Call.TheVariants.{Kvfs}
+use Rattle.solid_model.specs.Room.{dying, puts_of, tags_put}
+use Rattle.solid_calls.proofs.RowKinds.{kvfs-changes}
+use Rattle.solid_edits.proofs.TagsPut.{length-with_attributes, puts-changed, within-changed}
+use Rattle.solid_edits.proofs.Dying.{dying-has}
+use Rattle.solid_edits.proofs.Stages.{Within}
+use Rattle.euler_kill.proofs.KvfsFound.{IsBare, dying-body, parts-once, parts-own}
 
 -- ---- the parts are there
 
@@ -49,31 +50,18 @@ parts-seen v s e p h = subst (λ (w : StoreView). AreBareParts (shape_of w.state
 
 -- ---- what is put is of the body
 
-module _ (m : EntityMap) (sound : IsSound m) (p : BareParts) (are : AreBareParts (shape_of m) p) where
-  part_among : (t : Tag) → Contains (tags_of_parts p) t → Contains (all_in_body (shape_of m) p.body) t
-  part_among t k =
-      let S = shape_of m in
-      let well = well-shape m sound in
-      ByRecursion-at (λ u. Contains (all_in_body S p.body) u) (tags_of_parts p) t (
-        in_body-among S p.body p.body _ are.body_is (body-part S well p are),
-        (
-          in_body-among S p.body p.shell _ are.shell_is (shell-part S well p are),
-          (
-            in_body-among S p.body p.face _ are.face_is (face-part S well p are),
-            (in_body-among S p.body p.loop_ _ are.loop_is (loop-part S well p are), (in_body-among S p.body p.vertex _ are.vertex_is (vertex-part S well p are), tt)),
-          ),
-        ),
-      ) k
+-- the parts, and their attributes, are all that stands in the body
+module _ (m : EntityMap) (sound : IsSound m) (p : BareParts) (are : AreBareParts (shape_of m) p) (bare : IsBare (shape_of m) p.body) (b : Tag) (same : p.body ≡ b) where
+  all_of_body : dying (shape_of m) (tags_of_parts p) ≡ all_in_body (shape_of m) b
+  all_of_body = dying-body (shape_of m) (well-shape m sound) p are bare ∙ ap (all_in_body (shape_of m)) same
 
-  on_among : (o : Tag) → Contains (tags_of_parts p) o → (t : Tag) → IsAttributeIn m o t → Contains (all_in_body (shape_of m) p.body) t
-  on_among o k t (name, value, is) =
-      let S = shape_of m in
-      let well = well-shape m sound in
-      let item = item-of m t (entity.Attr o name value) is in
-      in_body-among S p.body t _ item (attribute-body S well t o name value item ∙ among-in_body S p.body o well.written.ascends (part_among o k))
+  pub kvfs-within : Within (with_attributes m (tags_of_parts p)) (tags_put (shape_of m) (Kvfs b) [])
+  kvfs-within t k =
+      within-changed (shape_of m) (Kvfs b) [] (dying (shape_of m) (tags_of_parts p)) (sym all_of_body) t
+      (dying-has m (tags_of_parts p) (parts-own (shape_of m) (well-shape m sound) p are) t k)
 
-  -- the parts, and their attributes
-  pub dead-among : (b : Tag) → p.body ≡ b → (t : Tag) → Contains (with_attributes m (tags_of_parts p)) t → Contains (all_in_body (shape_of m) b) t
-  dead-among b same t c =
-      subst (λ u. Contains (all_in_body (shape_of m) u) t) same
-      (with_attributes-cases m (tags_of_parts p) t c (Contains (all_in_body (shape_of m) p.body) t) (part_among t) (λ o k is. on_among o k t is))
+  pub kvfs-counts : puts_of (shape_of m) (Kvfs b) ≡ length (with_attributes m (tags_of_parts p))
+  kvfs-counts =
+      let well = well-shape m sound in
+      puts-changed (shape_of m) (Kvfs b) (dying (shape_of m) (tags_of_parts p)) (kvfs-changes (shape_of m) b) (sym all_of_body)
+      ∙ sym (length-with_attributes m (tags_of_parts p) sound (parts-once (shape_of m) well p are) (parts-own (shape_of m) well p are))

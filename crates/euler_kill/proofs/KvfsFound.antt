@@ -1,5 +1,5 @@
 -- kvfs: what it finds before it changes anything, its room, and why it is refused.
-use Rattle.std.proofs.Common.{◌≡◌, ◌≢◌, ◌<◌, ◌≤◌, ⊎_elim, Bool, true, false, ◌||◌, cond, List, [], ◌∷◌, length, Option, Some, None, refl, sym, ap, ◌∙◌, arith, ℕ, ◌⊎◌, inl, inr, Ok, subst}
+use Rattle.std.proofs.Common.{◌≡◌, ◌≢◌, ⊎_elim, Bool, true, false, ◌||◌, cond, List, [], ◌∷◌, length, Option, Some, None, refl, sym, ap, ◌∙◌, arith, ℕ, ◌⊎◌, inl, inr, Ok, subst}
 use Rattle.std.specs.Prelude.{T, ◌&&◌, map, filter, nat_lt, option_map, Contains, ℤ}
 use Rattle.std.specs.FinMap.{is_sorted, get}
 use Rattle.std.proofs.lemmas.Bool.Decides.{nat_tests}
@@ -13,38 +13,39 @@ use Rattle.pk_model.specs.Maps.{tag_cmp, EntityMap}
 use Rattle.solid_model.specs.Items.{Item, Shape, item_at, class_of_item}
 use Rattle.solid_model.specs.Items.Item.{Body, Shell, Face, Loop, Fin, Edge, Vertex, Attr}
 use Rattle.solid_model.specs.Owners.{same_class, owner_of_item, body_of, number_in_body, parts_of_class, all_in_body}
+use Rattle.solid_model.specs.Deaths.{dies_with, is_attribute_of}
 use Rattle.solid_model.specs.Kvfs.{has_more_than_a_vertex}
+use Rattle.solid_model.specs.Rings.{is_among}
+use Rattle.solid_model.specs.Room.{dying}
 use Rattle.solid_model.specs.Sound.{class_at, IsSound, is_alone_in, is_empty}
-use Rattle.solid_sound.proofs.lists.Neighbours.{same_itself, not_same, same_means, both_parts}
-use Rattle.solid_sound.proofs.shapes.Lookups.{filter-kept, filter-sorted, filter-was}
-use Rattle.solid_sound.proofs.shapes.Found.{item-among, same_or_other, among-item}
+use Rattle.pk_base.proofs.Same.{same_itself, not_same, same_means, same_or_other}
+use Rattle.solid_model.proofs.lists.Neighbours.{is_among-in, not_among}
+use Rattle.solid_sound.proofs.shapes.Edits.{class_apart}
+use Rattle.solid_sound.proofs.shapes.Lookups.{filter-kept}
+use Rattle.solid_sound.proofs.shapes.Found.{item-among, among-item}
 use Rattle.solid_sound.proofs.shapes.Sums.{sum-alike}
 use Rattle.solid_sound.proofs.shapes.Bodies.{leads_up, item_of_class}
 use Rattle.solid_sound.proofs.rows.RowKeeps.{IsWell, well-shape}
 use Rattle.solid_sound.proofs.rows.KeptRings.{face_of_class, shell_of_class}
 use Rattle.solid_sound.proofs.rows.KeptKfmrh.{no_two}
-use Rattle.list_facts.proofs.Elements.{not_in_nil, Contains-map, filter_contains, Contains-first, map_contains}
+use Rattle.list_facts.proofs.Elements.{not_in_nil, Contains-map, filter_contains, Contains-first}
 use Rattle.solid_places.proofs.Kids.{same_class-itself}
-use Rattle.std.specs.List.{count_by}
-use Rattle.std.proofs.lemmas.Bool.{or_parts}
+use Rattle.std.specs.List.{AllByRecursion, count_by}
+use Rattle.std.proofs.lemmas.Bool.{or_left, or_parts, or_right}
 use Rattle.pk_base.specs.declared.entity.Entity.TheVariants as entity
 use Rattle.pk_base.specs.declared.entity.Name.{Name}
 use Rattle.pk_base.specs.declared.entity.Point.{Point}
 use Rattle.solid_model.specs.Places.{asked, as_body, body_at}
 use Rattle.solid_model.specs.Shapes.{shape_of}
-use Rattle.solid_sound.proofs.shapes.Reading.{fin_in, vertex_of_class, below_all-differs}
+use Rattle.solid_sound.proofs.shapes.Reading.{each-found, fin_in, vertex_of_class}
 use Rattle.solid_edits.specs.BareParts.{AreBareParts, lone_vertex, tags_of_parts}
 use Rattle.solid_edits.specs.declared.bare_parts.BareParts.{BareParts}
 use Rattle.solid_places.proofs.Read.{item-of}
 use Rattle.solid_calls.proofs.Represented.{represents-sound}
-use Rattle.std.specs.FinMap.Entries.{below_all}
 use Rattle.pk_model.specs.Apart.{NoRepeats}
-use Rattle.solid_sound.proofs.rows.KeptDeaths.{among-in_body}
 use Rattle.solid_sound.proofs.shapes.AttributeBodies.{attribute-body}
-use Rattle.solid_edits.specs.Deaths.{with_attributes}
-use Rattle.solid_edits.proofs.KilledMaps.{with_attributes-on, with_attributes-own}
-use Rattle.list_facts.proofs.Each.{ByRecursion-map, ByRecursion-contains}
-use Rattle.solid_calls.proofs.Room.{no_more-different}
+use Rattle.solid_edits.proofs.TagsPut.{AreOwners}
+use Rattle.list_facts.proofs.Each.{ByRecursion-at, ByRecursion-weaker}
 
 -- ---- what stands in the body, of one class
 
@@ -190,32 +191,23 @@ module _ (S : Shape) (well : IsWell S) (b shell : Tag) (body_is : item_at S b �
 -- ---- the test whether a body has more than a vertex
 
 -- one edge is too much, and so is a second face
-pub more-edges : (S : Shape) (b : Tag) → IsWell S → (shell : Tag) → item_at S b ≡ Some (Body shell) → 0 < length (parts_of_class class.Edge S b) → has_more_than_a_vertex S b ≡ true
+pub more-edges : (S : Shape) (b : Tag) → IsWell S → (shell : Tag) → item_at S b ≡ Some (Body shell) → nat_lt 0 (length (parts_of_class class.Edge S b)) ≡ true → has_more_than_a_vertex S b ≡ true
 more-edges S b well shell is h =
-    let e = edges-counted S well b shell is in
-    let test : nat_lt 0 (number_in_body class.Edge S b) ≡ true = grind (arith, nat_tests, e) in
+    let test : nat_lt 0 (number_in_body class.Edge S b) ≡ true = ap (nat_lt 0) (sym (edges-counted S well b shell is)) ∙ h in
     ap (λ q. q || nat_lt 1 (number_in_body class.Face S b) || nat_lt 1 (number_in_body class.Loop S b)) test
 
-pub more-faces : (S : Shape) (b : Tag) → IsWell S → (shell : Tag) → item_at S b ≡ Some (Body shell) → 1 < length (parts_of_class class.Face S shell) → has_more_than_a_vertex S b ≡ true
+pub more-faces : (S : Shape) (b : Tag) → IsWell S → (shell : Tag) → item_at S b ≡ Some (Body shell) → nat_lt 1 (length (parts_of_class class.Face S shell)) ≡ true → has_more_than_a_vertex S b ≡ true
 more-faces S b well shell is h =
-    let e = faces-counted S well b shell is in
-    let test : nat_lt 1 (number_in_body class.Face S b) ≡ true = grind (arith, nat_tests, e) in
-    or_middle (nat_lt 0 (number_in_body class.Edge S b)) (nat_lt 1 (number_in_body class.Face S b)) (nat_lt 1 (number_in_body class.Loop S b)) test
-  where
-    or_middle : (p q r : Bool) → q ≡ true → (p || q || r) ≡ true
-    or_middle true q r k = refl
-    or_middle false true r k = refl
-    or_middle false false r k = absurd (cc)
+    let test : nat_lt 1 (number_in_body class.Face S b) ≡ true = ap (nat_lt 1) (sym (faces-counted S well b shell is)) ∙ h in
+    or_left (nat_lt 0 (number_in_body class.Edge S b) || nat_lt 1 (number_in_body class.Face S b)) (nat_lt 1 (number_in_body class.Loop S b)) (or_right (nat_lt 0 (number_in_body class.Edge S b)) (nat_lt 1 (number_in_body class.Face S b)) test)
 
 -- else it is a second loop that counts
 pub loops-tell : (S : Shape) (b : Tag) → IsWell S → (shell face outer : Tag) → item_at S b ≡ Some (Body shell) → item_at S face ≡ Some (Face shell outer)
-    → length (parts_of_class class.Edge S b) ≤ 0 → length (parts_of_class class.Face S shell) ≤ 1
+    → nat_lt 0 (length (parts_of_class class.Edge S b)) ≡ false → nat_lt 1 (length (parts_of_class class.Face S shell)) ≡ false
     → nat_lt 1 (length (parts_of_class class.Loop S face)) ≡ has_more_than_a_vertex S b
 loops-tell S b well shell face outer is face_is no_edge one_face =
-    let e = edges-counted S well b shell is in
-    let f = faces-counted S well b shell is in
-    let edges : nat_lt 0 (number_in_body class.Edge S b) ≡ false = grind (arith, nat_tests, e) in
-    let faces : nat_lt 1 (number_in_body class.Face S b) ≡ false = grind (arith, nat_tests, f) in
+    let edges : nat_lt 0 (number_in_body class.Edge S b) ≡ false = ap (nat_lt 0) (sym (edges-counted S well b shell is)) ∙ no_edge in
+    let faces : nat_lt 1 (number_in_body class.Face S b) ≡ false = ap (nat_lt 1) (sym (faces-counted S well b shell is)) ∙ one_face in
     ap (nat_lt 1) (loops-counted S well b shell is face outer face_is faces)
     ∙ sym (λ i. edges i || faces i || nat_lt 1 (number_in_body class.Loop S b))
 
@@ -342,6 +334,9 @@ module _ (S : Shape) (well : IsWell S) (p : BareParts) (are : AreBareParts S p) 
   pub vertex-part : body_of S p.vertex ≡ p.body
   vertex-part = sym ((leads_up S well.written well.sound).vertices p.vertex p.body are.point are.vertex_is) ∙ body-part
 
+  pub parts-body : (t : Tag) → Contains (tags_of_parts p) t → body_of S t ≡ p.body
+  parts-body t k = ByRecursion-at (λ u. body_of S u ≡ p.body) (tags_of_parts p) t (body-part, (shell-part, (face-part, (loop-part, (vertex-part, tt))))) k
+
   -- it is a part
   abbrev pub IsPart : Tag → Type 0
   IsPart t = Contains (tags_of_parts p) t
@@ -417,43 +412,86 @@ lone-there m sound b shell face outer bare at face_is =
 pub same-vertex : (S : Shape) (b shell face outer v w : Tag) → v ≡ w → AreBareParts S (record { body = b; shell = shell; face = face; loop_ = outer; vertex = v }) → AreBareParts S (record { body = b; shell = shell; face = face; loop_ = outer; vertex = w })
 same-vertex S b shell face outer v w e h = subst (λ u. AreBareParts S (record { body = b; shell = shell; face = face; loop_ = outer; vertex = u })) e h
 
--- ---- no more stands in a body of one vertex than its five parts and their attributes
+-- ---- what stands in a body of one vertex dies with its five parts
 
--- the tags of a shape are different
-once-sorted : (S : Shape) → T (is_sorted tag_cmp S) → NoRepeats (map (λ x. x.0) S)
-once-sorted [] h = tt
-once-sorted (x ∷ S) h =
-    let parts = both_parts (below_all tag_cmp x.0 S) (is_sorted tag_cmp S) h in (
-      ByRecursion-map (λ (y : Tag × Item). x.0 ≢ y.0) (λ t. x.0 ≢ t) (λ y. y.0) (λ y k. k) S (below_all-differs x.0 S parts.0),
-      once-sorted S parts.1,
-    )
+filter-same : (p q : Tag × Item → Bool) (xs : Shape) → AllByRecursion (λ x. p x ≡ q x) xs → filter p xs ≡ filter q xs
+filter-same p q [] h = refl
+filter-same p q (x ∷ xs) h = let rest = filter-same p q xs h.1 in λ i. cond (h.0 i) (x ∷ rest i) (rest i)
 
-module _ (m : EntityMap) (sound : IsSound m) (p : BareParts) (are : AreBareParts (shape_of m) p) (bare : IsBare (shape_of m) p.body) where
-  abbrev S : Shape
-  S = shape_of m
-
+module _ (S : Shape) (well : IsWell S) (p : BareParts) (are : AreBareParts S p) where
   abbrev ks : List Tag
   ks = tags_of_parts p
 
-  abbrev listed : List Tag
-  listed = with_attributes m ks
+  body_class : class_at S p.body ≡ Some class.Body
+  body_class = ap (option_map class_of_item) are.body_is
 
-  among_listed : (t : Tag) → Contains (all_in_body S p.body) t → Contains listed t
-  among_listed t k =
-      let well = well-shape m sound in
-      let q = λ (y : Tag × Item). same_tag (body_of S y.0) p.body in
-      let y = map_contains (λ (z : Tag × Item). z.0) (filter q S) t k in
-      let is = (filter-was q S well.written.ascends y.0.0 y.0.1 (among-item (filter q S) (filter-sorted q S well.written.ascends) y.0.0 y.0.1 y.1)).0 in
-      let here : item_at S t ≡ Some y.0.1 = ap (item_at S) (sym y.2) ∙ is in
-      let at = among-in_body S p.body t well.written.ascends k in
-      ⊎_elim {C = Contains listed t}
-      (λ (part : Contains ks t). with_attributes-own m ks t part)
-      (λ (a : (o : Tag) × (name : Name) × (value : ℤ) × (y.0.1 ≡ Attr o name value)).
-      let own = owner-part S well p are bare t a.0 a.1 a.2 (here ∙ ap Some a.3) at in
-      with_attributes-on m ks a.0 t own (a.1, a.2, (represents-sound m sound).items t (Attr a.0 a.1 a.2) (here ∙ ap Some a.3)))
-      (part-or_attribute S well p are bare t y.0.1 here at)
+  shell_class : class_at S p.shell ≡ Some class.Shell
+  shell_class = ap (option_map class_of_item) are.shell_is
 
-  pub few-in_body : length (all_in_body S p.body) ≤ length listed
-  few-in_body = no_more-different (all_in_body S p.body) listed
-      (once-sorted (filter (λ x. same_tag (body_of S x.0) p.body) S) (filter-sorted (λ x. same_tag (body_of S x.0) p.body) S (well-shape m sound).written.ascends))
-      (ByRecursion-contains (Contains listed) (all_in_body S p.body) among_listed)
+  face_class : class_at S p.face ≡ Some class.Face
+  face_class = ap (option_map class_of_item) are.face_is
+
+  loop_class : class_at S p.loop_ ≡ Some class.Loop
+  loop_class = ap (option_map class_of_item) are.loop_is
+
+  vertex_class : class_at S p.vertex ≡ Some class.Vertex
+  vertex_class = ap (option_map class_of_item) are.vertex_is
+
+  pub parts-own : AreOwners S ks
+  parts-own = (
+    (class.Body, body_class, (λ k. cc)),
+    ((class.Shell, shell_class, (λ k. cc)), ((class.Face, face_class, (λ k. cc)), ((class.Loop, loop_class, (λ k. cc)), ((class.Vertex, vertex_class, (λ k. cc)), tt)))),
+  )
+
+  pub parts-once : NoRepeats ks
+  parts-once = (
+    (
+      class_apart S p.body p.shell _ _ body_class shell_class (λ k. cc),
+      (
+        class_apart S p.body p.face _ _ body_class face_class (λ k. cc),
+        (class_apart S p.body p.loop_ _ _ body_class loop_class (λ k. cc), (class_apart S p.body p.vertex _ _ body_class vertex_class (λ k. cc), tt)),
+      ),
+    ),
+    (
+      (
+        class_apart S p.shell p.face _ _ shell_class face_class (λ k. cc),
+        (class_apart S p.shell p.loop_ _ _ shell_class loop_class (λ k. cc), (class_apart S p.shell p.vertex _ _ shell_class vertex_class (λ k. cc), tt)),
+      ),
+      (
+        (class_apart S p.face p.loop_ _ _ face_class loop_class (λ k. cc), (class_apart S p.face p.vertex _ _ face_class vertex_class (λ k. cc), tt)),
+        ((class_apart S p.loop_ p.vertex _ _ loop_class vertex_class (λ k. cc), tt), (tt, tt)),
+      ),
+    ),
+  )
+
+  module _ (bare : IsBare S p.body) where
+    dies_here : (t : Tag) (x : Item) → item_at S t ≡ Some x → body_of S t ≡ p.body → dies_with ks (t, x) ≡ true
+    dies_here t x e at = ⊎_elim {C = dies_with ks (t, x) ≡ true}
+        (λ (part : Contains ks t). ap (λ b. b || is_attribute_of ks x) (is_among-in t ks part))
+        (λ (a : (o : Tag) × (name : Name) × (value : ℤ) × (x ≡ Attr o name value)).
+        let own = owner-part S well p are bare t a.0 a.1 a.2 (e ∙ ap Some a.3) at in
+        ap (λ y. is_among t ks || is_attribute_of ks y) a.3 ∙ or_right (is_among t ks) (is_among a.0 ks) (is_among-in a.0 ks own))
+        (part-or_attribute S well p are bare t x e at)
+
+    not_on : (t : Tag) (x : Item) → item_at S t ≡ Some x → body_of S t ≢ p.body → is_attribute_of ks x ≡ false
+    not_on t (Attr owner name value) e out = not_among owner ks (λ k. out (attribute-body S well t owner name value e ∙ parts-body S well p are owner k))
+    not_on t (Body s) e out = refl
+    not_on t (Shell body q) e out = refl
+    not_on t (Face s o) e out = refl
+    not_on t (Loop face fins vertex) e out = refl
+    not_on t (Fin mate edge vertex) e out = refl
+    not_on t (Edge body) e out = refl
+    not_on t (Vertex body point) e out = refl
+
+    dies_if : (t : Tag) (x : Item) → item_at S t ≡ Some x → dies_with ks (t, x) ≡ same_tag (body_of S t) p.body
+    dies_if t x e = ⊎_elim {C = dies_with ks (t, x) ≡ same_tag (body_of S t) p.body}
+        (λ (at : body_of S t ≡ p.body). dies_here t x e at ∙ sym (ap (λ u. same_tag u p.body) at ∙ same_itself p.body))
+        (λ (out : body_of S t ≢ p.body).
+        let part : is_among t ks ≡ false = not_among t ks (λ k. out (parts-body S well p are t k)) in
+        let on = not_on t x e out in
+        (λ i. part i || on i) ∙ sym (not_same (body_of S t) p.body out))
+        (same_or_other (body_of S t) p.body)
+
+    pub dying-body : dying S ks ≡ all_in_body S p.body
+    dying-body = ap (map (λ (x : Tag × Item). x.0)) (filter-same (dies_with ks) (λ x. same_tag (body_of S x.0) p.body) S
+        (ByRecursion-weaker (λ (x : Tag × Item). item_at S x.0 ≡ Some x.1) (λ (x : Tag × Item). dies_with ks x ≡ same_tag (body_of S x.0) p.body) (λ x e. dies_if x.0 x.1 e) S (each-found S well.written.ascends)))

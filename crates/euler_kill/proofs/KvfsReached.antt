@@ -18,9 +18,11 @@ use Rattle.solid_model.specs.Kvfs.{kvfs, has_more_than_a_vertex}
 use Rattle.solid_model.specs.Links.{links}
 use Rattle.solid_model.specs.Shapes.{shape_of}
 use Rattle.solid_model.specs.Sound.{IsSound}
-use Rattle.solid_sound.proofs.lists.Neighbours.{is_among-in, not_among, neither_from, NoneOf}
+use Rattle.solid_model.proofs.lists.Neighbours.{is_among-in, not_among, neither_from}
+use Rattle.pk_model.proofs.TagLists.{NoneOf}
 use Rattle.solid_sound.proofs.shapes.Lookups.{filter-kept}
-use Rattle.solid_sound.proofs.shapes.Found.{filter-lost, filter-none, same_or_other}
+use Rattle.solid_sound.proofs.shapes.Found.{filter-lost, filter-none}
+use Rattle.pk_base.proofs.Same.{same_or_other}
 use Rattle.solid_sound.proofs.rows.RowKeeps.{IsWell, Keeps, not_refused, well-shape}
 use Rattle.solid_sound.proofs.rows.KeptDeaths.{in_body-among, among-in_body, kvfs-keeps}
 use Rattle.solid_sound.proofs.shapes.AttributeBodies.{attribute-body}
@@ -29,8 +31,8 @@ use Rattle.solid_edits.specs.declared.bare_parts.BareParts.{BareParts}
 use Rattle.solid_edits.proofs.Going.{goes-on, goes-past}
 use Rattle.solid_edits.specs.Deaths.{Kills}
 use Rattle.solid_edits.proofs.KilledMaps.{LivesOn, kills-dead, kills-none, kills-owned, kills-stays, shown-attribute}
-use Rattle.list_facts.proofs.Each.{ByRecursion-contains, ByRecursion-at}
-use Rattle.euler_kill.proofs.KvfsFound.{IsBare, is-bare, body-part, shell-part, face-part, loop-part, vertex-part, no-fin, owner-part, part-or_attribute}
+use Rattle.list_facts.proofs.Each.{ByRecursion-contains}
+use Rattle.euler_kill.proofs.KvfsFound.{IsBare, is-bare, no-fin, owner-part, part-or_attribute, parts-body}
 use Rattle.solid_calls.proofs.Represented.{Represents, represented, represents-sound}
 use Rattle.solid_edits.proofs.StaysRepresented.{IsShown, KeepsFins, are-shown, shown-gone, stays-shown}
 
@@ -74,10 +76,6 @@ module _ (m n : EntityMap) (sound : IsSound m) (p : BareParts) (x : KillsBody (s
   abbrev lives : Tag × Item → Bool
   lives y = not (dies_with all y)
 
-  part_body : (t : Tag) → Contains ks t → body_of S t ≡ p.body
-  part_body t k = ByRecursion-at (λ u. body_of S u ≡ p.body) ks t
-      (body-part S well p are, (shell-part S well p are, (face-part S well p are, (loop-part S well p are, (vertex-part S well p are, tt))))) k
-
   -- in the body: all of it has gone
   dead : (t : Tag) (y : Item) → item_at S t ≡ Some y → body_of S t ≡ p.body → IsShown R n t
   dead t y e at =
@@ -104,11 +102,11 @@ module _ (m n : EntityMap) (sound : IsSound m) (p : BareParts) (x : KillsBody (s
   not_parts : (t : Tag) (y : Item) → item_at S t ≡ Some y → body_of S t ≢ p.body → LivesOn m ks t
   not_parts t y e h = λ owner name value is.
       let same = shown-attribute S m t y owner name value (was.items t y e) is in
-      ByRecursion-contains (λ k. owner ≢ k) ks (λ k c own. h (attribute-body S well t owner name value (e ∙ ap Some same) ∙ ap (body_of S) own ∙ part_body k c))
+      ByRecursion-contains (λ k. owner ≢ k) ks (λ k c own. h (attribute-body S well t owner name value (e ∙ ap Some same) ∙ ap (body_of S) own ∙ parts-body S well p are k c))
 
   stays : (t : Tag) (y : Item) → item_at S t ≡ Some y → body_of S t ≢ p.body → (item_at R t ≡ Some y) × (get n t ≡ get m t)
   stays t y e h =
-      let apart : NoneOf t ks = ByRecursion-contains (λ k. t ≢ k) ks (λ k c same. h (ap (body_of S) same ∙ part_body k c)) in (
+      let apart : NoneOf t ks = ByRecursion-contains (λ k. t ≢ k) ks (λ k c same. h (ap (body_of S) same ∙ parts-body S well p are k c)) in (
         filter-kept lives S t y e (neither_from (is_among t all) (is_attribute_of all y) (not_among t all (λ k. h (among-in_body S p.body t well.written.ascends k))) (not_all t y e h)),
         kills-stays m n ks kills t apart (not_parts t y e h),
       )

@@ -4,14 +4,12 @@ pub mod KvfsFound
 pub mod KvfsReached
 pub mod KvfsDone
 pub mod KevFound
-pub mod KevReached
+pub mod KevSteps
 pub mod KevDone
 pub mod KefFound
 pub mod KefSteps
-pub mod KefReached
 pub mod KefDone
 pub mod KemrFound
-pub mod KemrSteps
 pub mod KemrReached
 pub mod KemrDone
 pub mod KfmrhFound

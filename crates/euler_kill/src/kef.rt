@@ -7,7 +7,7 @@ ghost use Rattle.solid_calls.specs.Pairs.{HasDone, MayDo, NeedsAsRow};
 use entity_store::{Need, Recorder, Steps, Store};
 use halfedge::{join_rings, relabel, ring_len, ring_next};
 use pk_base::{Refusal, Tag};
-use solid_edits::{count_dead, kill_all, put_loop};
+use solid_edits::{count_dead, kill_all, put_loop, remove_edge};
 use solid_places::{PlacedFin, fin_at, has_rings};
 use std::sync::ledger::Ledger;
 
@@ -27,10 +27,10 @@ pub fn kef_need<L: Ledger>(store: &Store, fin: Tag, steps: &mut Steps<L>) -> Res
         return Err(Refusal::HasRings(u.face));
     }
     let dead = count_dead(store, side_of(fin, &u).as_slice(), steps);
-    let fins = ring_len(store, fin, steps) + ring_len(store, u.mate, steps);
+    let fins = ring_len(store, fin, steps);
     Ok(Need {
         tags: 0,
-        changes: dead + 1 + fins,
+        changes: dead + 3 + fins,
         list: 0,
     })
 }
@@ -54,7 +54,7 @@ pub fn kef_need<L: Ledger>(store: &Store, fin: Tag, steps: &mut Steps<L>) -> Res
 ///
 /// Source: Mäntylä, An Introduction to Solid Modeling, 1988; the form is this project's own.
 pub fn kef_do<L: Ledger>(rec: &mut Recorder<'_>, fin: Tag, steps: &mut Steps<L>)
-    requires { MayDo rec.old.store.now (Kef fin) }
+    requires { MayDo rec.old.store.now (Kef fin) [] }
     ensures done { HasDone rec.old.store.now (Kef fin) [] rec.new.store.now }
     ensures same_store { rec.new.store.ghost_name ≡ rec.old.store.ghost_name }
 {
@@ -69,10 +69,11 @@ pub fn kef_do<L: Ledger>(rec: &mut Recorder<'_>, fin: Tag, steps: &mut Steps<L>)
     };
     // No edge ends where it starts, so the ring has another fin.
     let first = ring_next(store, fin, steps);
+    relabel(rec, fin, v.loop_, steps);
     join_rings(rec, fin, steps);
-    relabel(rec, first, v.loop_, steps);
     put_loop(rec, v.loop_, v.face, first, steps);
-    kill_all(rec, side_of(fin, &u).as_slice(), steps);
+    kill_all(rec, [u.loop_, u.face].as_slice(), steps);
+    remove_edge(rec, fin, &u, steps);
 }
 
 /// What dies with the face of the fin: its loop, it itself, the fin, its mate and the edge.

@@ -4,17 +4,19 @@ ghost use Rattle.std.specs.FinMap as map;
 ghost use Rattle.pk_base.specs.declared.call.Call.TheVariants.{Kemr};
 ghost use Rattle.pk_model.specs.Tags.{owns};
 ghost use Rattle.entity_store.specs.NextTags.{left};
+ghost use Rattle.solid_model.specs.Rows.{cost_of};
 ghost use Rattle.solid_model.specs.Sound.{IsSound};
-ghost use Rattle.solid_calls.specs.LinkedRings.{IsInRing, Relinks, mate_in, ring_at, ring_of_any};
-ghost use Rattle.solid_calls.specs.Pairs.{HasDone, HasTags, MayDo, NeedsAsRow, Takes};
-ghost use Rattle.solid_calls.specs.Room.{HasRoomForThese, PutsAmong};
+ghost use Rattle.halfedge.specs.LinkedRings.{IsInRing, Relinks, mate_in, ring_at, ring_of_any};
+ghost use Rattle.solid_calls.specs.Pairs.{HasDone, HasTags, MayDo, NeedsAsRow, Takes, row_on};
+ghost use Rattle.entity_store.specs.Room.{HasRoomForThese, PutsAmong};
 ghost use Rattle.solid_edits.specs.EditedLoops.{HasParted, fins_behind, fins_between, other_than as the_other_than};
 
+use crate::parted::{Parts, cut_out};
 use entity_store::{Need, Recorder, Steps, Store, Tags};
-use halfedge::{cut_ring, ring_len, ring_next};
+use halfedge::ring_len;
 use pk_base::{Refusal, Tag, TagListBuilder};
 use solid_calls::take_tag;
-use solid_edits::{count_dead, give_ring, kill_all, least_of_any, loop_from};
+use solid_edits::{count_dead, give_ring, least_of_any, loop_from, remove_edge};
 use solid_places::{PlacedFin, fin_at};
 use std::sync::ledger::Ledger;
 
@@ -66,10 +68,12 @@ pub fn kemr_do<L: Ledger>(
     out: &mut TagListBuilder,
     steps: &mut Steps<L>,
 )
-    requires may { MayDo rec.old.store.now (Kemr fin) }
-    requires tags { HasTags rec.old.store.now 1 tags.old out.old }
+    requires may { MayDo rec.old.store.now (Kemr fin) (left tags.old) }
+    requires tags { HasTags rec.old.store.now
+        (cost_of (row_on rec.old.store.now.state.map (Kemr fin))) tags.old out.old }
     ensures done { HasDone rec.old.store.now (Kemr fin) (left tags.old) rec.new.store.now }
-    ensures takes { Takes 1 tags.old out.old tags.new out.new }
+    ensures takes { Takes (cost_of (row_on rec.old.store.now.state.map (Kemr fin)))
+        tags.old out.old tags.new out.new }
     ensures same_store { rec.new.store.ghost_name ≡ rec.old.store.ghost_name }
 {
     // Each live entity stands in an owned block.
@@ -88,7 +92,7 @@ pub fn kemr_do<L: Ledger>(
         steps,
     );
     rec.put(ring, Some(loop_from(u.face, least.off, w.vertex)), steps);
-    kill_all(rec, edge_of(fin, &u).as_slice(), steps);
+    remove_edge(rec, fin, &u, steps);
 }
 
 /// What dies with an edge: the fin, its mate and the edge.
@@ -96,20 +100,6 @@ fn edge_of(fin: Tag, u: &PlacedFin) -> [Tag; 3]
     ensures { result ≡ fin ∷ u.now.mate ∷ u.now.edge ∷ [] }
 {
     [fin, u.mate, u.edge]
-}
-
-/// A fin of each part of a ring that was cut, where it is not empty.
-#[derive(Clone, Copy, Drop)]
-struct Parts {
-    kept: Option<Tag>,
-    off: Option<Tag>,
-}
-
-/// The tag, unless it is this one.
-fn other_than(tag: Tag, one: Tag) -> Option<Tag>
-    ensures { result ≡ the_other_than tag one }
-{
-    if tag == one { None } else { Some(tag) }
 }
 
 /// Cuts a fin and its mate out of their ring, and gives the fins between them to a loop. Its result
@@ -142,36 +132,4 @@ fn part_ring<L: Ledger>(
     let off = least_of_any(rec, parts.off, steps);
     give_ring(rec, parts.off, to, steps);
     Parts { kept, off }
-}
-
-/// Cuts a fin and its mate out of their ring. Its result is a fin of each part. It takes no memory.
-fn cut_out<L: Ledger>(rec: &mut Recorder<'_>, fin: Tag, mate: Tag, steps: &mut Steps<L>) -> Parts
-    requires ring { IsInRing rec.old.store.now.state.map fin }
-    requires mate { mate_in rec.old.store.now.state.map fin ≡ mate }
-    requires among { Contains (ring_at rec.old.store.now.state.map fin) mate }
-    requires other { mate ≢ fin }
-    requires room { HasRoomForThese rec.old.store.now.recording
-        (ring_at rec.old.store.now.state.map fin) }
-    ensures links { let m = rec.old.store.now.state.map in
-        Relinks m (ring_at m fin ∷ []) rec.new.store.now.state.map
-        (fins_between m fin mate ∷ fins_behind m fin mate ∷ (fin ∷ []) ∷ (mate ∷ []) ∷ []) }
-    ensures kept { ring_of_any rec.new.store.now.state.map result.kept
-        ≡ fins_behind rec.old.store.now.state.map fin mate }
-    ensures kept_ring { IfSome result.kept (IsInRing rec.new.store.now.state.map) }
-    ensures off { ring_of_any rec.new.store.now.state.map result.off
-        ≡ fins_between rec.old.store.now.state.map fin mate }
-    ensures off_ring { IfSome result.off (IsInRing rec.new.store.now.state.map) }
-    ensures state { rec.new.store.now.state ≡ record rec.old.store.now.state
-        { map = rec.new.store.now.state.map } }
-    ensures puts { PutsAmong (ring_at rec.old.store.now.state.map fin)
-        rec.old.store.now rec.new.store.now }
-    ensures same_store { rec.new.store.ghost_name ≡ rec.old.store.ghost_name }
-{
-    let after_fin = ring_next(rec.view(), fin, steps);
-    let after_mate = ring_next(rec.view(), mate, steps);
-    cut_ring(rec, fin, steps);
-    Parts {
-        kept: other_than(after_mate, fin),
-        off: other_than(after_fin, mate),
-    }
 }

@@ -1,22 +1,19 @@
 //! The operator kev.
-ghost use Rattle.std.specs.Prelude.{◌≡◌, ◌≢◌, ◌∷◌, [], None, Some, IsTrue, if◌then◌else◌};
+ghost use Rattle.std.specs.Prelude.{◌≡◌, ◌≢◌, ◌∷◌, [], None, Some, IfSome};
+ghost use Rattle.std.specs.FinMap as map;
 ghost use Rattle.pk_base.specs.declared.call.Call.TheVariants.{Kev};
-ghost use Rattle.pk_base.specs.Entity.{same_tag};
 ghost use Rattle.pk_base.specs.declared.entity.Entity.TheVariants as entity;
 ghost use Rattle.pk_base.specs.declared.tag.Tag.{Tag};
-ghost use Rattle.pk_model.specs.Maps.{with_entity};
-ghost use Rattle.pk_model.specs.Tags.{owns};
-ghost use Rattle.entity_store.specs.Recording.{HasRoomFor};
 ghost use Rattle.solid_model.specs.Rings.{first_tag, from_least};
 ghost use Rattle.solid_model.specs.Sound.{IsSound};
-ghost use Rattle.solid_calls.specs.LinkedRings.{IsInRing, ring_at};
+ghost use Rattle.halfedge.specs.LinkedRings.{IsInRing, ring_of_any};
 ghost use Rattle.solid_calls.specs.Pairs.{HasDone, MayDo, NeedsAsRow};
-ghost use Rattle.solid_calls.specs.Room.{PutsAmong};
 
+use crate::parted::cut_out;
 use entity_store::{Need, Recorder, Steps, Store};
-use halfedge::{cut_ring, ring_next};
+use halfedge::ring_next;
 use pk_base::{Entity, Refusal, Tag};
-use solid_edits::{count_dead, kill_all, put_loop};
+use solid_edits::{count_dead, kill, least_of_any, loop_from, remove_edge};
 use solid_places::{PlacedFin, fin_at};
 use std::sync::ledger::Ledger;
 
@@ -60,7 +57,7 @@ pub fn kev_need<L: Ledger>(store: &Store, fin: Tag, steps: &mut Steps<L>) -> Res
 ///
 /// Source: Mäntylä, An Introduction to Solid Modeling, 1988; the form is this project's own.
 pub fn kev_do<L: Ledger>(rec: &mut Recorder<'_>, fin: Tag, steps: &mut Steps<L>)
-    requires { MayDo rec.old.store.now (Kev fin) }
+    requires { MayDo rec.old.store.now (Kev fin) [] }
     ensures done { HasDone rec.old.store.now (Kev fin) [] rec.new.store.now }
     ensures same_store { rec.new.store.ghost_name ≡ rec.old.store.ghost_name }
 {
@@ -72,10 +69,12 @@ pub fn kev_do<L: Ledger>(rec: &mut Recorder<'_>, fin: Tag, steps: &mut Steps<L>)
     let Ok(mate) = fin_at(rec.view(), placed.mate, steps) else {
         unreachable!()
     };
-    let next = ring_next(rec.view(), placed.mate, steps);
-    cut_ring(rec, fin, steps);
-    put_rest(rec, &placed, fin, next, steps);
-    kill_all(rec, strut_of(fin, &placed, &mate).as_slice(), steps);
+    let parts = cut_out(rec, fin, placed.mate, steps);
+    let first = least_left(rec, fin, &placed, parts.kept, steps);
+    let rest = loop_from(placed.face, first, placed.vertex);
+    rec.put(placed.loop_, Some(rest), steps);
+    remove_edge(rec, fin, &placed, steps);
+    kill(rec, mate.vertex, steps);
 }
 
 /// What dies with a strut: the fin, its mate, the edge, and the vertex where the mate starts.
@@ -85,38 +84,35 @@ fn strut_of(fin: Tag, placed: &PlacedFin, mate: &PlacedFin) -> [Tag; 4]
     [fin, placed.mate, placed.edge, mate.vertex]
 }
 
-/// Gives the loop of a fin what is left without the fin and its mate: the ring of the fin `next`,
-/// which came after the mate; or where that was the fin again, the vertex where the fin starts.
-fn put_rest<L: Ledger>(
-    rec: &mut Recorder<'_>,
-    placed: &PlacedFin,
+/// The least fin of what is left of a ring without an edge's fin and its mate, where there is any.
+/// The ring is walked only where one of the two was the least, which is the loop's first.
+fn least_left<L: Ledger>(
+    rec: &Recorder<'_>,
     fin: Tag,
-    next: Tag,
+    placed: &PlacedFin,
+    rest: Option<Tag>,
     steps: &mut Steps<L>,
-)
-    requires ring { next ≢ fin → IsInRing rec.old.store.now.state.map next }
-    requires owned { IsTrue (owns rec.old.store.now.state.blocks placed.now.loop_) }
-    requires face_owned { IsTrue (owns rec.old.store.now.state.blocks placed.now.face) }
-    requires other { placed.now.face ≢ placed.now.loop_ }
-    requires room { HasRoomFor rec.old.store.now.recording placed.now.loop_ }
-    ensures state { rec.new.store.now.state ≡ record rec.old.store.now.state {
-      map = with_entity rec.old.store.now.state.map placed.now.loop_
-          (Some (if same_tag next fin
-          then entity.Loop placed.now.face None (Some placed.now.vertex)
-          else entity.Loop placed.now.face
-          (first_tag (from_least (ring_at rec.old.store.now.state.map next))) None));
-    } }
-    ensures puts { PutsAmong (placed.now.loop_ ∷ []) rec.old.store.now rec.new.store.now }
-    ensures same_store { rec.new.store.ghost_name ≡ rec.old.store.ghost_name }
+) -> Option<Tag>
+    requires ring { IfSome rest (IsInRing rec.now.store.now.state.map) }
+    requires first { let m = rec.now.store.now.state.map in
+        (face : Tag) × (first : Tag)
+        × (map.get m placed.now.loop_ ≡ Some (entity.Loop face (Some first) None))
+        × (first ≢ fin → first ≢ placed.now.mate
+        → first_tag (from_least (ring_of_any m rest)) ≡ Some first) }
+    ensures { result ≡ first_tag (from_least (ring_of_any rec.now.store.now.state.map rest)) }
 {
-    if next == fin {
-        let entity = Entity::Loop {
-            face: placed.face,
-            first: None,
-            lone: Some(placed.vertex),
-        };
-        rec.put(placed.loop_, Some(entity), steps);
+    let Some(
+        Entity::Loop {
+            first: Some(first),
+            ..
+        },
+    ) = rec.get(placed.loop_, steps).copied()
+    else {
+        unreachable!()
+    };
+    if first == fin || first == placed.mate {
+        least_of_any(rec, rest, steps)
     } else {
-        put_loop(rec, placed.loop_, placed.face, next, steps);
+        Some(first)
     }
 }

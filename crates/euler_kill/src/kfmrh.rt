@@ -61,7 +61,7 @@ pub fn kfmrh_need<L: Ledger>(
 /// Source: Mäntylä, An Introduction to Solid Modeling, 1988 (kill face, make ring, hole); the
 /// form is this project's own.
 pub fn kfmrh_do<L: Ledger>(rec: &mut Recorder<'_>, keep: Tag, kill: Tag, steps: &mut Steps<L>)
-    requires { MayDo rec.old.store.now (Kfmrh keep kill) }
+    requires { MayDo rec.old.store.now (Kfmrh keep kill) [] }
     ensures done { HasDone rec.old.store.now (Kfmrh keep kill) [] rec.new.store.now }
     ensures same_store { rec.new.store.ghost_name ≡ rec.old.store.ghost_name }
 {

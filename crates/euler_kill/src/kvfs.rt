@@ -14,7 +14,7 @@ ghost use Rattle.solid_edits.specs.BareParts.{AreBareParts, lone_vertex as the_l
 use entity_store::{Need, Recorder, Steps, Store};
 use pk_base::{Class, Entity, Refusal, Tag};
 use solid_edits::{BareParts, count_dead, kill_all};
-use solid_places::{body_at, number_of_parts};
+use solid_places::{body_at, has_more_parts};
 use std::sync::ledger::Ledger;
 
 /// What `kvfs_do` needs, or why it is refused. It takes no memory.
@@ -50,7 +50,7 @@ pub fn kvfs_need<L: Ledger>(store: &Store, body: Tag, steps: &mut Steps<L>) -> R
 /// Source: Mäntylä, An Introduction to Solid Modeling, 1988 (kill vertex, face, solid); the form
 /// is this project's own.
 pub fn kvfs_do<L: Ledger>(rec: &mut Recorder<'_>, body: Tag, steps: &mut Steps<L>)
-    requires { MayDo rec.old.store.now (Kvfs body) }
+    requires { MayDo rec.old.store.now (Kvfs body) [] }
     ensures done { HasDone rec.old.store.now (Kvfs body) [] rec.new.store.now }
     ensures same_store { rec.new.store.ghost_name ≡ rec.old.store.ghost_name }
 {
@@ -79,13 +79,14 @@ fn has_more<L: Ledger>(store: &Store, body: Tag, shell: Tag, steps: &mut Steps<L
     requires shell { the_body_at (shape_of store.now.state.map) body ≡ Ok shell }
     ensures { result ≡ has_more_than_a_vertex (shape_of store.now.state.map) body }
 {
-    let edges = number_of_parts(store, Class::Edge, body, steps);
-    let faces = number_of_parts(store, Class::Face, shell, steps);
-    if edges > 0 || faces > 1 {
+    if has_more_parts(store, Class::Edge, body, 0, steps) {
+        return true;
+    }
+    if has_more_parts(store, Class::Face, shell, 1, steps) {
         return true;
     }
     let face = face_of(store, shell, steps);
-    number_of_parts(store, Class::Loop, face, steps) > 1
+    has_more_parts(store, Class::Loop, face, 1, steps)
 }
 
 /// A face of a shell that has one.

@@ -14,4 +14,5 @@ mod kemr;
 mod kev;
 mod kfmrh;
 mod kvfs;
+mod parted;
 mod ringmove;

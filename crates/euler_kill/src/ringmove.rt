@@ -55,7 +55,7 @@ pub fn ringmove_need<L: Ledger>(
 /// Source: Mäntylä, An Introduction to Solid Modeling, 1988 (move ring); the form is this
 /// project's own.
 pub fn ringmove_do<L: Ledger>(rec: &mut Recorder<'_>, ring: Tag, to: Tag, steps: &mut Steps<L>)
-    requires { MayDo rec.old.store.now (RingMove ring to) }
+    requires { MayDo rec.old.store.now (RingMove ring to) [] }
     ensures done { HasDone rec.old.store.now (RingMove ring to) [] rec.new.store.now }
     ensures same_store { rec.new.store.ghost_name ≡ rec.old.store.ghost_name }
 {

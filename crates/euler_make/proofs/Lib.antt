@@ -1,5 +1,7 @@
 -- Operator by operator, in reading order.
 pub mod MvfsReached
+pub mod FinsBeside
+pub mod FirstFins
 pub mod MevFound
 pub mod MevSteps
 pub mod MevReached

@@ -1,5 +1,5 @@
 -- mef: what it finds before it changes anything, its row, its room, and the tags that it takes.
-use Rattle.std.proofs.Common.{◌≡◌, ◌≢◌, ◌<◌, List, [], ◌∷◌, ◌++◌, Some, None, refl, sym, ap, subst, ◌∙◌, arith, ◌≤◌, ◌+◌, not, length, take, Ok}
+use Rattle.std.proofs.Common.{◌≡◌, ◌≢◌, ◌<◌, List, [], ◌∷◌, ◌++◌, Some, None, refl, sym, ap, subst, ◌∙◌, arith, not, take, Ok}
 use Rattle.std.specs.Prelude.{Contains, IsOk, IsTrue}
 use Rattle.std.specs.List.{AllByRecursion}
 use Rattle.std.specs.FinMap.{get}
@@ -9,10 +9,11 @@ use Rattle.solid_model.specs.Items.{Item, Shape, item_at, ◌with◌}
 use Rattle.solid_model.specs.Items.Item.{Face, Fin, Edge}
 use Rattle.solid_model.specs.Rings.{before, from, ring_of}
 use Rattle.solid_model.specs.Places.{PlacedFin, fin_at}
-use Rattle.solid_calls.specs.LinkedRings.{IsRing, IsInRing, ring_at}
+use Rattle.halfedge.specs.LinkedRings.{IsRing, IsInRing, ring_at}
 use Rattle.solid_sound.proofs.shapes.Lookups.{Items}
 use Rattle.solid_sound.proofs.edges.Ends.{FinIn, fin-well}
 use Rattle.solid_sound.proofs.rows.RowKeeps.{IsWell, Keeps, well-shape}
+use Rattle.solid_calls.proofs.RowKinds.{cost-making, mef-makes}
 use Rattle.solid_calls.proofs.Represented.{Represents, represents-sound}
 use Rattle.solid_edits.proofs.PlacedFins.{same-loop_lists}
 use Rattle.std.proofs.lemmas.Bool.{not-false}
@@ -27,16 +28,17 @@ use Rattle.list_facts.proofs.Each.{ByRecursion-weaker, ByRecursion-left}
 use Rattle.entity_store.specs.NextTags.{TagsView, left}
 use Rattle.entity_store.specs.Store.{StoreView, IsHosted}
 use Rattle.solid_model.specs.Mef.{mef}
-use Rattle.solid_model.specs.Room.{if_found, puts_of, puts_of_mef}
-use Rattle.solid_model.specs.Rows.{Row, makes_five, refuse_where, ◌>>◌}
+use Rattle.solid_model.specs.Room.{changed_by_mef, if_found, tags_put}
+use Rattle.solid_model.specs.Rows.{Row, cost_of, makes_five, refuse_where, ◌>>◌}
 use Rattle.solid_model.specs.Shapes.{shape_of}
 use Rattle.solid_calls.specs.Pairs.{HasTags, MayDo, reached, row_on}
-use Rattle.solid_calls.specs.Room.{HasRoomForThese}
+use Rattle.entity_store.specs.Room.{HasRoomForThese}
 use Rattle.solid_sound.proofs.rows.Asked.{free_item}
 use Rattle.solid_sound.proofs.rows.KeptMef.{mef-keeps}
 use Rattle.solid_sound.proofs.rows.KeptRings.{face_in, face_of_class}
-use Rattle.solid_sound.proofs.lists.Neighbours.{NoneOf, differs_means, same_means}
-use Rattle.solid_calls.proofs.Room.{room-of_length}
+use Rattle.pk_model.proofs.TagLists.{NoneOf}
+use Rattle.pk_base.proofs.Same.{differs_means, same_means}
+use Rattle.solid_edits.specs.declared.new_edges.NewEdge.{NewEdge}
 use Rattle.solid_edits.proofs.EditedMaps.{shown-live}
 use Rattle.solid_sound.proofs.shapes.Edits.{live-none_of}
 use Rattle.solid_edits.proofs.Going.{not_refused_twice}
@@ -72,7 +74,20 @@ mef-not_refused S f g u v h k goes =
     let twice = not_refused_twice (not (same_tag u.loop_ v.loop_)) (same_tag u.vertex v.vertex) (NotOneLoop u.loop_ v.loop_) (SameVertex u.vertex) (mef_makes S g u v) (subst (λ (r : Row). IsOk r) asked goes) in
     (same_means u.loop_ v.loop_ (not-false (same_tag u.loop_ v.loop_) twice.0), differs_means u.vertex v.vertex twice.1, asked ∙ twice.2)
 
+-- the edge that is made, of these tags: x starts at the vertex v, in the new loop l
+abbrev pub mef_edge : PlacedFin → (v l edge x y : Tag) → NewEdge
+mef_edge u v l edge x y = record {
+  tag = edge;
+  body = u.body;
+  fin = record { tag = x; loop_ = l; vertex = v };
+  mate = record { tag = y; loop_ = u.loop_; vertex = u.vertex };
+}
+
 -- ---- all that is known when it goes on
+
+-- it takes five tags
+pub mef-cost : (S : Shape) (f g : Tag) → IsOk (mef S f g) → cost_of (mef S f g) ≡ 5
+mef-cost S f g goes = cost-making 5 (mef S f g) (mef-makes S f g) goes
 
 -- the tags that may be put
 abbrev pub mef_puts : PlacedFin → Tag → Tag → Tag → Tag → Tag → List Tag
@@ -91,7 +106,7 @@ pub record MefGoes (s : StoreView) (f g : Tag) (u : PlacedFin) (v : Tag) (tags :
   pub is : reached (shape_of s.state.map) tags (row_on s.state.map (Mef f g)) ≡ shape_of s.state.map with mef_items u g v face l edge x y
   pub reached_well : IsWell (shape_of s.state.map with mef_items u g v face l edge x y)
   pub room : HasRoomForThese s.recording (mef_puts u face l edge x y)
-  pub few : length (mef_puts u face l edge x y) ≤ puts_of (shape_of s.state.map) (Mef f g)
+  pub puts : tags_put (shape_of s.state.map) (Mef f g) tags ≡ mef_puts u face l edge x y
   pub owned : AllByRecursion (λ t. IsTrue (owns s.state.blocks t)) (face ∷ l ∷ edge ∷ x ∷ y ∷ [])
   pub known : AllByRecursion (λ t. IsTrue (owns s.state.blocks t)) (u.shell ∷ u.body ∷ u.loop_ ∷ u.face ∷ [])
   pub shell_apart : NoneOf u.shell (face ∷ l ∷ edge ∷ x ∷ y ∷ [])
@@ -100,7 +115,7 @@ pub record MefGoes (s : StoreView) (f g : Tag) (u : PlacedFin) (v : Tag) (tags :
   pub face_apart : u.face ≢ u.loop_
 
 pub mef-goes : (s a : StoreView) → a ≡ s → (f g : Tag) (tags : TagsView) (out : Building Tag) (u v : PlacedFin) (face l edge x y : Tag) (rest : List Tag)
-    → ((t : Tag) (e : Entity) → get a.state.map t ≡ Some e → IsHosted a.state.blocks t e) → MayDo s (Mef f g) → HasTags s 5 tags out
+    → ((t : Tag) (e : Entity) → get a.state.map t ≡ Some e → IsHosted a.state.blocks t e) → MayDo s (Mef f g) (left tags) → HasTags s (cost_of (row_on s.state.map (Mef f g))) tags out
     → fin_at (shape_of a.state.map) f ≡ Ok u → fin_at (shape_of a.state.map) g ≡ Ok v → u.fins ≡ ring_at a.state.map f → IsInRing a.state.map f
     → left tags ≡ face ∷ l ∷ edge ∷ x ∷ y ∷ rest → MefGoes s f g u v.vertex (left tags) face l edge x y
 mef-goes s a viewed f g tags out u v face l edge x y rest hosted_then may has found found_too fins_then in_ring_then parts =
@@ -116,6 +131,7 @@ mef-goes s a viewed f g tags out u v face l edge x y rest hosted_then may has fo
     let U = fin-well S well f (item_at S f) refl u h in
     let V = fin-well S well g (item_at S g) refl v k in
     let row = mef-not_refused S f g u v h k may.goes in
+    let cost = mef-cost S f g may.goes in
     let ts : List Tag = face ∷ l ∷ edge ∷ x ∷ y ∷ rest in
     let new : List Tag = face ∷ l ∷ edge ∷ x ∷ y ∷ [] in
     let ascend : TagsAscend ts = subst TagsAscend parts has.ascend in
@@ -123,14 +139,13 @@ mef-goes s a viewed f g tags out u v face l edge x y rest hosted_then may has fo
     ByRecursion-weaker (λ t. get m t ≡ None) (λ t. item_at S t ≡ None) (λ t e. free_item m may.sound t e) ts (subst (AllByRecursion (λ t. get m t ≡ None)) parts has.free) in
     let free : AllByRecursion (λ t. item_at S t ≡ None) new = ByRecursion-left (λ t. item_at S t ≡ None) new rest all_free in
     let keeps : Keeps ts (mef_makes S g u v) = subst (Keeps ts) row.2 (mef-keeps S ts f g well ascend all_free) in
-    let owned : AllByRecursion (λ t. IsTrue (owns s.state.blocks t)) new = subst (λ l. AllByRecursion (λ t. IsTrue (owns s.state.blocks t)) (take 5 l)) parts has.owned in
+    let owned : AllByRecursion (λ t. IsTrue (owns s.state.blocks t)) new = subst (λ l. AllByRecursion (λ t. IsTrue (owns s.state.blocks t)) (take 5 l)) parts (subst (λ n. HasTags s n tags out) cost has).owned in
     let face_is = face_of_class (item_at S u.face) (well.sound.names.kinds u.loop_ _ U.end.loop_is).0.0 in
     let F = face_in S well u.face face_is.0 face_is.1 face_is.2 in
     let shell_same : face_is.0 ≡ u.shell = sym F.shell_of ∙ U.shell_is in
     let shell_is = ap (item_at S) (sym shell_same) ∙ F.shell_is in
     let live_owned = λ (t : Tag) (i : Item) (e : item_at S t ≡ Some i). let shown = shown-live S m t i (rep.items t i e) in (hosted t shown.0 shown.1).owned in
-    let count : puts_of S (Mef f g) ≡ 6 + length u.fins = ap (if_found puts_of_mef) h in
-    let few : length (mef_puts u face l edge x y) ≤ puts_of S (Mef f g) = omega (arith, count) in
+    let puts : tags_put S (Mef f g) (left tags) ≡ mef_puts u face l edge x y = λ i. take (cost i) (parts i) ++ if_found changed_by_mef (h i) in
     record {
       well = well;
       rep = rep;
@@ -143,8 +158,8 @@ mef-goes s a viewed f g tags out u v face l edge x y rest hosted_then may has fo
       ring = subst (IsRing m) (sym fins_are) in_ring.ring;
       is = ap (λ l. reached S l (mef S f g)) parts ∙ ap (reached S ts) row.2;
       reached_well = keeps (omega arith);
-      room = room-of_length s.recording (mef_puts u face l edge x y) (let room = may.room in omega (arith, room, few));
-      few = few;
+      room = subst (HasRoomForThese s.recording) puts may.room;
+      puts = puts;
       owned = owned;
       known = (live_owned u.shell _ shell_is, (live_owned u.body _ U.end.body_is, (live_owned u.loop_ _ U.end.loop_is, (live_owned u.face _ face_is.2, tt))));
       shell_apart = live-none_of S new u.shell _ free shell_is;

@@ -1,6 +1,6 @@
 -- mef: the steps from one map to the next.
 use Rattle.std.proofs.Common.{◌≡◌, ◌≢◌, ⊎_elim, List, [], ◌∷◌, ◌++◌, Option, Some, None, sym, ap, subst, ◌∙◌}
-use Rattle.std.specs.Prelude.{Contains}
+use Rattle.std.specs.Prelude.{Contains, option_map}
 use Rattle.std.specs.List.{AllByRecursion}
 use Rattle.std.specs.FinMap.{get}
 use Rattle.std.proofs.lemmas.List.Elements.{Contains-append_left, Contains-append_right, Contains-append_cases}
@@ -9,32 +9,33 @@ use Rattle.pk_base.specs.declared.entity.Entity.{Entity}
 use Rattle.pk_base.specs.declared.entity.Entity.TheVariants as entity
 use Rattle.pk_model.specs.Apart.{NoRepeats}
 use Rattle.pk_model.specs.Maps.{EntityMap, with_entity}
-use Rattle.pk_model.proofs.TagLists.{NoRepeats-append, NoRepeats-between}
+use Rattle.pk_model.proofs.TagLists.{NoRepeats-append, NoRepeats-between, NoneOf}
 use Rattle.solid_model.specs.Items.{Shape, item_at}
 use Rattle.solid_model.specs.Items.Item.{Loop, Fin}
 use Rattle.solid_model.specs.Rings.{before, first_tag, from, from_least}
 use Rattle.solid_model.specs.Places.{PlacedFin}
-use Rattle.solid_calls.specs.LinkedRings.{IsInRing, IsRing, Relabels, Relinks, loop_named, ring_at}
-use Rattle.solid_sound.proofs.lists.Neighbours.{NoneOf, before-from}
-use Rattle.solid_sound.proofs.lists.Cycles.{CutAt, cut-at}
+use Rattle.halfedge.specs.LinkedRings.{IsInRing, IsRing, Relabels, Relinks, loop_named, ring_at}
+use Rattle.solid_model.proofs.lists.Neighbours.{before-from}
+use Rattle.solid_model.proofs.lists.Cycles.{CutAt, cut-at}
 use Rattle.solid_sound.proofs.edges.Ends.{FinIn}
 use Rattle.solid_sound.proofs.rows.RowKeeps.{IsWell}
-use Rattle.solid_calls.proofs.LinkedRings.{in-ring_from, ring_at-is, ring_alone}
+use Rattle.halfedge.proofs.LinkedRings.{in-ring_from, ring_at-is}
 use Rattle.solid_calls.proofs.Represented.{Represents}
-use Rattle.solid_edits.proofs.EditedMaps.{HasFin, with_loop, has-fin_same, relabelled-has_fin, relabelled-named, relabelled-ring, relinked-has_fin, relinked-named, ring-same, same-named}
+use Rattle.solid_edits.proofs.EditedMaps.{with_loop, relabelled-ring, ring-same, same-named}
 use Rattle.solid_edits.proofs.PlacedFins.{placed-fin, placed-named, placed-other, placed-live}
 use Rattle.list_facts.proofs.Elements.{Contains-first, Contains-only}
 use Rattle.list_facts.proofs.Each.{ByRecursion-contains}
-use Rattle.solid_edits.proofs.RelinkedFins.{loop_read}
+use Rattle.solid_edits.proofs.PlacedAnew.{IsSameElsewhere, named-by_fin, relabels-elsewhere, relabels-named, relinks-elsewhere, relinks-named, unplaced}
 use Rattle.solid_sound.proofs.shapes.Edits.{live-none_of}
+use Rattle.solid_edits.specs.NewEdges.{with_edge}
+use Rattle.solid_edits.proofs.MadeEdges.{HasEdge, edge-kept, edge-made}
+use Rattle.euler_make.proofs.MefFound.{mef_edge}
 use Rattle.euler_make.proofs.MefReached.{MefReached}
 use Rattle.entity_store.proofs.FirstValues.{get_other, get_put}
 
 -- the map with what is made, where the new fins are each a ring alone
 abbrev pub mef_made : EntityMap → PlacedFin → Tag → Tag → Tag → Tag → Tag → Tag → EntityMap
-mef_made m u v face l edge x y =
-    with_entity (with_entity (with_entity (with_entity m face (Some (entity.Face u.shell l))) edge (Some (entity.Edge u.body x)))
-    x (Some (entity.Fin l x x y edge v))) y (Some (entity.Fin u.loop_ y y x edge u.vertex))
+mef_made m u v face l edge x y = with_edge (with_entity m face (Some (entity.Face u.shell l))) (mef_edge u v l edge x y)
 
 module _ (S : Shape) (m : EntityMap) (well : IsWell S) (rep : Represents S m) (f g v face l edge x y : Tag) (u : PlacedFin) (U : FinIn S f u)
     (once : NoRepeats (face ∷ l ∷ edge ∷ x ∷ y ∷ [])) (free : AllByRecursion (λ t. item_at S t ≡ None) (face ∷ l ∷ edge ∷ x ∷ y ∷ []))
@@ -118,44 +119,17 @@ module _ (S : Shape) (m : EntityMap) (well : IsWell S) (rep : Represents S m) (f
   abbrev face_put : Option Entity
   face_put = Some (entity.Face u.shell l)
 
-  abbrev edge_put : Option Entity
-  edge_put = Some (entity.Edge u.body x)
-
-  abbrev x_put : Option Entity
-  x_put = Some (entity.Fin l x x y edge v)
-
-  abbrev y_put : Option Entity
-  y_put = Some (entity.Fin u.loop_ y y x edge u.vertex)
-
   abbrev faced : EntityMap
   faced = with_entity m face face_put
 
-  abbrev edged : EntityMap
-  edged = with_entity faced edge edge_put
-
-  abbrev x_made : EntityMap
-  x_made = with_entity edged x x_put
+  pub made-edge : HasEdge faced (mef_edge u v l edge x y) made
+  made-edge = edge-made faced (mef_edge u v l edge x y) once.1.1
 
   made_other : (t : Tag) → NoneOf t (face ∷ edge ∷ x ∷ y ∷ []) → get made t ≡ get m t
-  made_other t h = get_other x_made y y_put t h.1.1.1.0 ∙ get_other edged x x_put t h.1.1.0 ∙ get_other faced edge edge_put t h.1.0 ∙ get_other m face face_put t h.0
+  made_other t h = made-edge.others t h.1 ∙ get_other m face face_put t h.0
 
   made_face : get made face ≡ face_put
-  made_face = get_other x_made y y_put face once.0.1.1.1.0 ∙ get_other edged x x_put face once.0.1.1.0 ∙ get_other faced edge edge_put face once.0.1.0 ∙ get_put m face (Some (entity.Face u.shell l))
-
-  made_edge : get made edge ≡ edge_put
-  made_edge = get_other x_made y y_put edge once.1.1.0.1.0 ∙ get_other edged x x_put edge once.1.1.0.0 ∙ get_put faced edge (Some (entity.Edge u.body x))
-
-  made_x : get made x ≡ x_put
-  made_x = get_other x_made y y_put x once.1.1.1.0.0 ∙ get_put edged x (Some (entity.Fin l x x y edge v))
-
-  made_y : get made y ≡ y_put
-  made_y = get_put x_made y (Some (entity.Fin u.loop_ y y x edge u.vertex))
-
-  pub made-x_ring : IsRing made (x ∷ [])
-  made-x_ring = ring_alone made x l y edge v made_x
-
-  pub made-y_ring : IsRing made (y ∷ [])
-  made-y_ring = ring_alone made y u.loop_ x edge u.vertex made_y
+  made_face = made-edge.others face once.0.1 ∙ get_put m face face_put
 
   pub made-same : (t : Tag) → Contains u.fins t → get made t ≡ get m t
   made-same t k = let h = fin_apart t k in made_other t (h.0, (h.1.1.0, (h.1.1.1.0, (h.1.1.1.1.0, tt))))
@@ -229,9 +203,8 @@ module _ (S : Shape) (m : EntityMap) (well : IsWell S) (rep : Represents S m) (f
       last_same : (t : Tag) → (t ≢ l) × (t ≢ u.loop_) → get r t ≡ get p t
       last_same t h = get_other q u.loop_ (Some second_loop) t h.1 ∙ get_other p l (Some first_loop) t h.0
 
-      fin_last : (t mate e vertex : Tag) → (t ≢ l) × (t ≢ u.loop_) → HasFin made t mate e vertex → HasFin r t mate e vertex
-      fin_last t mate e vertex h is =
-          has-fin_same p r t mate e vertex (last_same t h) (relabelled-has_fin n p A l t mate e vertex labels (relinked-has_fin made n t mate e vertex (parted.fields t) is))
+      linked : (t : Tag) → (t ≢ l) × (t ≢ u.loop_) → IsSameElsewhere made r t
+      linked t h = ap (option_map unplaced) (last_same t h) ∙ relabels-elsewhere n p A l labels t ∙ relinks-elsewhere made n _ _ parted t
 
       -- what is no fin of the loop, and none of the tags that are put, is as it was
       same_still : (t : Tag) → ¬ (Contains u.fins t) → t ≢ x → t ≢ y → get p t ≡ get made t
@@ -241,22 +214,26 @@ module _ (S : Shape) (m : EntityMap) (well : IsWell S) (rep : Represents S m) (f
       second_label : (t : Tag) → Contains B t → loop_named made t ≡ Some u.loop_
       second_label t k = ⊎_elim {C = loop_named made t ≡ Some u.loop_}
           (λ (j : Contains (from g u.fins) t). let among = second_among t j in same-named m made t (made-same t among) ∙ placed-named well U.end m rep t among)
-          (λ (j : Contains (y ∷ []) t). subst (λ i. loop_named made i ≡ Some u.loop_) (Contains-only y t j) (loop_read made y u.loop_ y y x edge u.vertex made_y))
+          (λ (j : Contains (y ∷ []) t). subst (λ i. loop_named made i ≡ Some u.loop_) (Contains-only y t j) (named-by_fin made y u.loop_ y y x edge u.vertex made-edge.mate_is))
           (Contains-append_cases (from g u.fins) (y ∷ []) t k)
 
       pub mef-reached : MefReached m u g v face l edge x y r
       mef-reached = record {
         first_ring = ring-same p r A named_first_ring (λ t k. last_same t (first_not t k));
         second_ring = ring-same p r B named_second_ring (λ t k. last_same t (second_not t k));
-        first_named = λ t k. same-named p r t (last_same t (first_not t k)) ∙ relabelled-named n p A l t labels first_ring k;
+        first_named = λ t k. same-named p r t (last_same t (first_not t k)) ∙ relabels-named n p A l first_ring labels t k;
         second_named = λ t k. same-named p r t (last_same t (second_not t k)) ∙ same-named n p t (labels.others t (λ j. rings_apart t j k))
-            ∙ relinked-named made n t u.loop_ (parted.fields t) (second_label t k);
+            ∙ relinks-named made n _ _ parted t ∙ second_label t k;
         face_is = last_same face (once.0.0, (λ e. loop_apart.0 (sym e))) ∙ same_still face (placed-live well U.end face free.0) once.0.1.1.0 once.0.1.1.1.0 ∙ made_face;
         loop_is = get_other q u.loop_ (Some second_loop) l (λ e. loop_apart.1.0 (sym e)) ∙ get_put p l (Some first_loop) ∙ ap (λ ts. Some (entity.Loop face (first_tag (from_least ts)) None)) named-ring_at;
-        edge_is = last_same edge ((λ e. once.1.0.0 (sym e)), (λ e. loop_apart.1.1.0 (sym e))) ∙ same_still edge (placed-live well U.end edge free.1.1.0) once.1.1.0.0 once.1.1.0.1.0 ∙ made_edge;
-        x_is = fin_last x y edge v (first_not x (Contains-append_right (before g u.fins) (x ∷ []) x (Contains-first x []))) (l, x, x, made_x);
-        y_is = fin_last y x edge u.vertex (second_not y (Contains-append_right (from g u.fins) (y ∷ []) y (Contains-first y []))) (u.loop_, y, y, made_y);
+        keeps = edge-kept faced made r (mef_edge u v l edge x y) made-edge (
+          linked edge ((λ e. once.1.0.0 (sym e)), (λ e. loop_apart.1.1.0 (sym e))),
+          (
+            linked x (first_not x (Contains-append_right (before g u.fins) (x ∷ []) x (Contains-first x []))),
+            (linked y (second_not y (Contains-append_right (from g u.fins) (y ∷ []) y (Contains-first y []))), tt),
+          ),
+        );
         old_is = get_put q u.loop_ (Some second_loop) ∙ ap (λ ts. Some (entity.Loop u.face (first_tag (from_least ts)) None)) looped-ring_at;
-        fins = λ t mate e vertex k is. fin_last t mate e vertex ((fin_apart t k).1.0, not_loop t k) (has-fin_same m made t mate e vertex (made-same t k) is);
+        elsewhere = λ t h. linked t (h.1.0, h.1.1.1.1.1.0) ∙ ap (option_map unplaced) (made_other t (h.0, (h.1.1.0, (h.1.1.1.0, (h.1.1.1.1.0, tt)))));
         others = λ t h k. last_same t (h.1.0, h.1.1.1.1.1.0) ∙ same_still t k h.1.1.1.0 h.1.1.1.1.0 ∙ made_other t (h.0, (h.1.1.0, (h.1.1.1.0, (h.1.1.1.1.0, tt))));
       }

@@ -17,28 +17,27 @@ use Rattle.entity_store.specs.Recording.{HasRoomFor, recorded_put}
 use Rattle.entity_store.specs.Store.{IsHosted, Stored, StoreView}
 use Rattle.solid_model.specs.Items.{item_at}
 use Rattle.solid_model.specs.Places.{End}
-use Rattle.solid_model.specs.Rings.{first_tag, from_least}
-use Rattle.solid_model.specs.Room.{puts_of}
+use Rattle.solid_model.specs.Rings.{first_tag, from_least, ends_of}
+use Rattle.solid_model.specs.Room.{tags_put}
 use Rattle.solid_model.specs.Shapes.{shape_of}
 use Rattle.solid_sound.proofs.rows.Asked.{free_item}
 use Rattle.solid_sound.proofs.rows.KeptMekr.{mekr-keeps}
 use Rattle.solid_sound.proofs.rows.RowKeeps.{well-shape}
 use Rattle.solid_calls.specs.Attributes.{attributes_on}
-use Rattle.solid_calls.specs.LinkedRings.{IsInRing, IsRing, Relabels, Relinks, ends_of, ring_at, ring_of_any}
-use Rattle.solid_calls.specs.Pairs.{HasDone, row_on}
-use Rattle.solid_calls.specs.Room.{HasRoomForThese, PutsAmong}
+use Rattle.halfedge.specs.LinkedRings.{IsInRing, Relabels, Relinks, ring_at, ring_of_any}
+use Rattle.solid_calls.specs.Pairs.{HasDone}
+use Rattle.entity_store.specs.Room.{HasRoomForThese, PutsAmong}
 use Rattle.solid_calls.proofs.Kept.{done-sound}
-use Rattle.solid_calls.proofs.LinkedRings.{in-ring_from, ring_at-is}
-use Rattle.solid_calls.proofs.Room.{records-of}
-use Rattle.solid_calls.proofs.RowKinds.{cost-making, mekr-makes}
+use Rattle.halfedge.proofs.LinkedRings.{in-ring_from, ring_at-is}
 use Rattle.solid_edits.specs.Deaths.{Dies}
 use Rattle.solid_edits.proofs.KilledMaps.{GainsNoAttribute, kills-one}
 use Rattle.solid_edits.proofs.Stages.{IsStage, stage-none, stage-owns, stage-room, stage-room_one, stage-then}
 use Rattle.solid_places.specs.declared.ends.End.{End as FoundEnd}
-use Rattle.euler_make.specs.JoinedLoops.{with_edge}
-use Rattle.euler_make.proofs.MekrReached.{mekr-attribute, mekr-body_live, mekr-body_owned, mekr-fin_alone, mekr-joined, mekr-kept, mekr-loop_hosted, mekr-loop_live, mekr-mate_alone, mekr-no_fin, mekr-once, mekr-reached, mekr-ring_owned, mekr_tags}
-use Rattle.euler_make.proofs.MekrFound.{AreNew, are-new, end_in, IsReady}
-use Rattle.euler_make.proofs.MekrSteps.{mekr-few, mekr-four, mekr-has_a, mekr-has_dead, mekr-has_ends, mekr-has_loop, mekr-has_new, mekr-one, mekr-room, mekr-three, mekr-two, of-both}
+use Rattle.solid_edits.specs.NewEdges.{with_edge}
+use Rattle.solid_edits.proofs.MadeEdges.{HasEdge}
+use Rattle.euler_make.proofs.MekrReached.{mekr-attribute, mekr-body_live, mekr-body_owned, mekr-has_edge, mekr-joined, mekr-kept, mekr-loop_hosted, mekr-loop_live, mekr-no_fin, mekr-once, mekr-puts, mekr-reached, mekr-ring_owned, mekr_tags}
+use Rattle.euler_make.proofs.MekrFound.{AreNew, are-new, edge_between, end_in, IsReady, mekr-cost}
+use Rattle.euler_make.proofs.MekrSteps.{mekr-four, mekr-has_a, mekr-has_dead, mekr-has_ends, mekr-has_loop, mekr-has_new, mekr-one, mekr-three, mekr-two, of-both}
 
 module _ {s0 : StoreView} {k r : Tag} {x y : FoundEnd} {tags : TagsView} {out : Building Tag} {e f h : Tag} (ready : IsReady s0 k r x y tags out e f h) where
   abbrev m : EntityMap
@@ -63,8 +62,11 @@ module _ {s0 : StoreView} {k r : Tag} {x y : FoundEnd} {tags : TagsView} {out : 
   new : AreNew s0 e f h
   new = are-new s0 (left tags) e f h ready.rest ready.taken ready.has.ascend ready.has.free ready.has.owned
 
+  puts : tags_put (shape_of m) (Mekr k r) (left tags) ≡ all
+  puts = mekr-puts m k r u v x.first y.first ready.at e f h (left tags) ready.rest ready.taken
+
   room : HasRoomForThese s0.recording all
-  room = mekr-room s0 k r u v x.first y.first ready.at e f h ready.may.room
+  room = subst (HasRoomForThese s0.recording) puts ready.may.room
 
   loop_hosted : (first : Option Tag) → IsHosted s0.state.blocks u.loop_ (entity.Loop u.face first None)
   loop_hosted = mekr-loop_hosted m k r u v x.first y.first ready.at s0.state.blocks ready.hosted
@@ -87,11 +89,11 @@ module _ {s0 : StoreView} {k r : Tag} {x y : FoundEnd} {tags : TagsView} {out : 
     one : IsStage all s0 s1
     one = mekr-one s0 k r u v x.first y.first ready.at e f h s1 state1 puts1
 
-    pub edge-owned : AllByRecursion (λ t. IsTrue (owns s1.state.blocks t)) (e ∷ f ∷ h ∷ u.body ∷ u.loop_ ∷ [])
+    pub edge-owned : AllByRecursion (λ t. IsTrue (owns s1.state.blocks t)) (e ∷ f ∷ h ∷ u.body ∷ u.loop_ ∷ u.loop_ ∷ [])
     edge-owned =
         let body = mekr-body_owned m k r u v x.first y.first ready.at s0.state.blocks ready.hosted in
-        subst (λ (s : Stored). AllByRecursion (λ (t : Tag). IsTrue (owns s.blocks t)) (e ∷ f ∷ h ∷ u.body ∷ u.loop_ ∷ [])) (sym one.state)
-        (new.owned.0, (new.owned.1.0, (new.owned.1.1.0, (body, (ring-owned, tt)))))
+        subst (λ (s : Stored). AllByRecursion (λ (t : Tag). IsTrue (owns s.blocks t)) (e ∷ f ∷ h ∷ u.body ∷ u.loop_ ∷ u.loop_ ∷ [])) (sym one.state)
+        (new.owned.0, (new.owned.1.0, (new.owned.1.1.0, (body, (ring-owned, (ring-owned, tt))))))
 
     pub edge-other : u.body ≢ e
     edge-other = mekr-body_live m k r u v x.first y.first ready.at e new.free.0
@@ -107,7 +109,7 @@ module _ {s0 : StoreView} {k r : Tag} {x y : FoundEnd} {tags : TagsView} {out : 
 
     -- ---- the edge is put
 
-    module _ (s2 : StoreView) (state2 : s2.state ≡ record s1.state { map = with_edge s1.state.map e f h u.body u.loop_ u.vertex v.vertex }) (puts2 : PutsAmong (e ∷ f ∷ h ∷ []) s1 s2) where
+    module _ (s2 : StoreView) (state2 : s2.state ≡ record s1.state { map = with_edge s1.state.map (edge_between u v e f h) }) (puts2 : PutsAmong (e ∷ f ∷ h ∷ []) s1 s2) where
       abbrev A2 : List Tag
       A2 = ring_of_any s2.state.map y.first
 
@@ -115,9 +117,9 @@ module _ {s0 : StoreView} {k r : Tag} {x y : FoundEnd} {tags : TagsView} {out : 
       B2 = ring_of_any s2.state.map x.first
 
       two : IsStage all s0 s2
-      two = mekr-two s0 k r u v x.first y.first ready.at e f h s1 s2 one (with_edge s1.state.map e f h u.body u.loop_ u.vertex v.vertex) state2 puts2
+      two = mekr-two s0 k r u v x.first y.first ready.at e f h s1 s2 one (with_edge s1.state.map (edge_between u v e f h)) state2 puts2
 
-      made : s2.state.map ≡ with_edge s1.state.map e f h u.body u.loop_ u.vertex v.vertex
+      made : s2.state.map ≡ with_edge s1.state.map (edge_between u v e f h)
       made = ap (λ (s : Stored). s.map) state2
 
       joined : (A2 ≡ A) × IfSome y.first (IsInRing s2.state.map)
@@ -139,11 +141,8 @@ module _ {s0 : StoreView} {k r : Tag} {x y : FoundEnd} {tags : TagsView} {out : 
       pub pair-ring : IfSome y.first (IsInRing s2.state.map)
       pair-ring = joined.1
 
-      pub pair-out : IsRing s2.state.map (f ∷ [])
-      pair-out = mekr-fin_alone m k r u v x.first y.first ready.at e f h new.once new.free s1.state.map s2.state.map labels made
-
-      pub pair-back : IsRing s2.state.map (h ∷ [])
-      pair-back = mekr-mate_alone m k r u v x.first y.first ready.at e f h new.once new.free s1.state.map s2.state.map labels made
+      pub pair-edge : HasEdge s1.state.map (edge_between u v e f h) s2.state.map
+      pair-edge = mekr-has_edge m k r u v x.first y.first ready.at e f h new.once new.free s1.state.map s2.state.map labels made
 
       pub pair-apart : NoRepeats (f ∷ A2 ++ h ∷ B2)
       pair-apart = now (λ p q. NoRepeats (f ∷ p ++ h ∷ q)) (mekr-once m k r u v x.first y.first ready.at e f h new.once new.free s1.state.map s2.state.map labels made)
@@ -213,12 +212,12 @@ module _ {s0 : StoreView} {k r : Tag} {x y : FoundEnd} {tags : TagsView} {out : 
                 let map_is =
                 mekr-reached m k r u v x.first y.first ready.at e f h new.once new.free s1.state.map s2.state.map labels made s3.state.map s4.state.map joins least first_is put new.less
                 s5.state.map (kills-one s4.state.map s5.state.map v.loop_ dies) (left tags) ready.rest ready.taken ready.has.ascend ready.has.free in
-                let cost = cost-making 3 (row_on m (Mekr k r)) (mekr-makes S k r) ready.may.goes in
+                let cost = mekr-cost S k r ready.may.goes in
                 let items = ByRecursion-weaker (λ (t : Tag). get m t ≡ None) (λ (t : Tag). item_at S t ≡ None) (λ t none. free_item m ready.may.sound t none) (left tags) ready.has.free in
                 let keeps = mekr-keeps S (left tags) k r (well-shape m ready.may.sound) ready.has.ascend items in
                 let state = five.state ∙ ap (λ (z : EntityMap). record s0.state { map = z }) map_is in
                 record {
                   state = state;
                   sound = done-sound s0 s5 (Mekr k r) (left tags) ready.may.sound (omega (arith, cost, ready.has.enough)) keeps state;
-                  records = records-of all (puts_of S (Mekr k r)) s0 s5 five.puts (mekr-few s0 k r u v x.first y.first ready.at e f h);
+                  puts = subst (λ ts. PutsAmong ts s0 s5) (sym puts) five.puts;
                 }

@@ -18,16 +18,18 @@ use Rattle.solid_model.specs.Items.{Shape, ◌with◌}
 use Rattle.solid_model.specs.Items.Item.{Fin, Edge}
 use Rattle.solid_model.specs.Rings.{ring_of}
 use Rattle.solid_model.specs.Deaths.{◌without◌}
-use Rattle.solid_model.specs.Rows.{Row, makes_three, refuse_where, ◌>>◌}
+use Rattle.solid_model.specs.Rows.{Row, cost_of, makes_three, refuse_where, ◌>>◌}
 use Rattle.solid_model.specs.Places.{End, end_at, outer_at}
 use Rattle.solid_model.specs.Mekr.{mekr}
 use Rattle.solid_model.specs.Shapes.{shape_of}
 use Rattle.solid_model.specs.Sound.{IsSound}
-use Rattle.solid_calls.specs.LinkedRings.{IsInRing, ring_of_any}
+use Rattle.halfedge.specs.LinkedRings.{IsInRing, ring_of_any}
+use Rattle.solid_edits.specs.declared.new_edges.NewEdge.{NewEdge}
 use Rattle.solid_places.specs.declared.ends.End.{End as FoundEnd}
 use Rattle.pk_base.specs.Building.{Building}
 use Rattle.entity_store.specs.NextTags.{TagsView, left}
-use Rattle.solid_calls.specs.Pairs.{HasTags, MayDo}
+use Rattle.solid_calls.specs.Pairs.{HasTags, MayDo, row_on}
+use Rattle.solid_calls.proofs.RowKinds.{cost-making, mekr-makes}
 use Rattle.solid_calls.proofs.Sizes.{apart-ascending, ascend-left}
 use Rattle.list_facts.proofs.Each.{ByRecursion-left}
 
@@ -140,9 +142,22 @@ are-new s tags e f g more is ascend free owned =
 abbrev pub end_in : EntityMap → FoundEnd → End
 end_in m x = end_with x (ring_of_any m x.first)
 
+-- it takes three tags
+pub mekr-cost : (S : Shape) (k r : Tag) → IsOk (mekr S k r) → cost_of (mekr S k r) ≡ 3
+mekr-cost S k r goes = cost-making 3 (mekr S k r) (mekr-makes S k r) goes
+
+-- the edge that is made, of these tags, between two ends
+abbrev pub edge_between : End → End → (e f g : Tag) → NewEdge
+edge_between u v e f g = record {
+  tag = e;
+  body = u.body;
+  fin = record { tag = f; loop_ = u.loop_; vertex = u.vertex };
+  mate = record { tag = g; loop_ = u.loop_; vertex = v.vertex };
+}
+
 -- both ends were found, and the tags of the edge were taken
 pub record IsReady (old : StoreView) (k r : Tag) (x y : FoundEnd) (tags : TagsView) (out : Building Tag) (e f h : Tag) : Type 0 where
-  pub may : MayDo old (Mekr k r)
+  pub may : MayDo old (Mekr k r) (left tags)
   pub has : HasTags old 3 tags out
   pub hosted : (t : Tag) (i : Entity) → get old.state.map t ≡ Some i → IsHosted old.state.blocks t i
   pub at : AreEnds old.state.map k r (end_in old.state.map x) (end_in old.state.map y) x.first y.first
@@ -151,13 +166,13 @@ pub record IsReady (old : StoreView) (k r : Tag) (x y : FoundEnd) (tags : TagsVi
 
 -- what views of the store say is said of the store
 pub ready-viewed : {old v w z : StoreView} {k r : Tag} {tags : TagsView} {out : Building Tag} (x y : FoundEnd) (e f h : Tag) (rest : List Tag)
-    → MayDo old (Mekr k r) → HasTags old 3 tags out → v ≡ old → w ≡ old → z ≡ old
+    → MayDo old (Mekr k r) (left tags) → HasTags old (cost_of (row_on old.state.map (Mekr k r))) tags out → v ≡ old → w ≡ old → z ≡ old
     → ((t : Tag) (i : Entity) → get v.state.map t ≡ Some i → IsHosted v.state.blocks t i)
     → end_at (shape_of w.state.map) k ≡ Ok (end_with x (ring_of_any w.state.map x.first)) → end_at (shape_of z.state.map) r ≡ Ok (end_with y (ring_of_any z.state.map y.first))
     → IfSome x.first (IsInRing w.state.map) → IfSome y.first (IsInRing z.state.map) → left tags ≡ e ∷ f ∷ h ∷ rest → IsReady old k r x y tags out e f h
-ready-viewed {old = old} {w = w} {z = z} {k = k} {r = r} x y e f h rest may has same is_w is_z hosted found other ring_k ring_r taken = record {
+ready-viewed {old = old} {w = w} {z = z} {k = k} {r = r} {tags = tags} {out = out} x y e f h rest may has same is_w is_z hosted found other ring_k ring_r taken = record {
   may = may;
-  has = has;
+  has = subst (λ n. HasTags old n tags out) (mekr-cost (shape_of old.state.map) k r may.goes) has;
   hosted = subst (λ (v : StoreView). (t : Tag) (i : Entity) → get v.state.map t ≡ Some i → IsHosted v.state.blocks t i) same hosted;
   at = ends-found old w z k r x y is_w is_z may.sound may.goes found other ring_k ring_r;
   rest = rest;

@@ -1,8 +1,8 @@
 -- mekr: the map that is reached, and that it is that of the shape of its row.
-use Rattle.std.proofs.Common.{◌≡◌, ◌≢◌, ℕ, ◌+◌, ◌<◌, ⊎_elim, List, [], ◌∷◌, ◌++◌, length, Option, Some, None, refl, sym, ap, subst, ◌∙◌, length-append, arith}
+use Rattle.std.proofs.Common.{◌≡◌, ◌≢◌, ℕ, ◌+◌, ◌<◌, ⊎_elim, List, [], ◌∷◌, ◌++◌, length, Option, Some, None, refl, sym, ap, subst, ◌∙◌, take, length-append, arith}
 use Rattle.std.specs.Prelude.{Contains, IfSome, IsTrue, option_map}
 use Rattle.std.specs.Option.{option_and_then}
-use Rattle.std.specs.List.{AllByRecursion, flat_map}
+use Rattle.std.specs.List.{AllByRecursion}
 use Rattle.std.specs.FinMap.{get}
 use Rattle.std.proofs.lemmas.List.Elements.{Contains-append_cases}
 use Rattle.pk_base.specs.declared.tag.Tag.{Tag}
@@ -14,21 +14,21 @@ use Rattle.pk_base.specs.declared.call.Call.TheVariants.{Mekr}
 use Rattle.pk_model.specs.Apart.{NoRepeats}
 use Rattle.pk_model.specs.Maps.{EntityMap, with_entity}
 use Rattle.pk_model.specs.Tags.{TagsAscend, owns}
-use Rattle.pk_model.proofs.TagLists.{NoRepeats-append}
+use Rattle.pk_model.proofs.TagLists.{NoRepeats-append, NoneOf}
 use Rattle.entity_store.specs.Store.{IsHosted}
 use Rattle.entity_store.proofs.FirstValues.{get_other, get_put}
 use Rattle.solid_model.specs.Items.{Item, Shape, item_at, class_of_item, ◌with◌}
 use Rattle.solid_model.specs.Items.Item.{Loop, Fin, Edge}
-use Rattle.solid_model.specs.Rings.{first_tag, from_least, ring_of}
+use Rattle.solid_model.specs.Rings.{ends_of, first_tag, from_least, ring_of}
 use Rattle.solid_model.specs.Deaths.{◌without◌}
-use Rattle.solid_model.specs.Room.{if_found, puts_of, puts_of_mekr}
-use Rattle.solid_model.specs.Places.{End, end_at}
+use Rattle.solid_model.specs.Room.{changed_by_mekr, dying, if_found, puts_of, tags_changed, tags_put}
+use Rattle.solid_model.specs.Rows.{cost_of}
+use Rattle.solid_model.specs.Places.{End}
 use Rattle.solid_model.specs.Mekr.{mekr}
 use Rattle.solid_model.specs.Links.{links}
 use Rattle.solid_model.specs.Shapes.{shape_of}
 use Rattle.solid_model.specs.Sound.{class_at}
-use Rattle.solid_sound.proofs.lists.Neighbours.{differs_means, NoneOf}
-use Rattle.solid_sound.proofs.lists.Cycles.{least-in}
+use Rattle.pk_base.proofs.Same.{differs_means}
 use Rattle.solid_sound.proofs.rows.Asked.{free_item}
 use Rattle.solid_sound.proofs.shapes.Edits.{Edits, class_apart, edits}
 use Rattle.solid_sound.proofs.edges.Ends.{EndIn, end-well}
@@ -38,50 +38,21 @@ use Rattle.solid_sound.proofs.shapes.Names.{NotAttr}
 use Rattle.solid_sound.proofs.shapes.Reading.{fin_in}
 use Rattle.solid_sound.proofs.rows.RowKeeps.{IsWell, Keeps, well-shape}
 use Rattle.solid_calls.specs.Attributes.{attributes_on}
-use Rattle.solid_calls.specs.LinkedRings.{FinFields, IsInRing, IsRing, Relabels, Relinks, as_fin, fin_in as fin_fields, loop_named, next_at, prev_at, ring_of_any}
+use Rattle.halfedge.specs.LinkedRings.{FinFields, IsInRing, IsRing, Relabels, Relinks, as_fin, fin_in as fin_fields, loop_named, next_at, prev_at, ring_of_any}
 use Rattle.solid_calls.specs.Pairs.{reached}
-use Rattle.solid_edits.specs.Deaths.{Kills, unless_on_any, with_attributes}
+use Rattle.solid_edits.specs.Deaths.{Kills, unless_on_any}
 use Rattle.list_facts.proofs.Elements.{Contains-cases, Contains-only}
 use Rattle.list_facts.proofs.Each.{ByRecursion-weaker, ByRecursion-contains, ByRecursion-at}
-use Rattle.euler_make.specs.JoinedLoops.{with_edge}
-use Rattle.solid_calls.proofs.Deaths.{deaths-of}
-use Rattle.solid_calls.proofs.LinkedRings.{ring-kept, ring-least, any_ring, ring_alone, ring_of_any-kept}
+use Rattle.solid_edits.specs.NewEdges.{with_edge}
+use Rattle.solid_edits.proofs.MadeEdges.{HasEdge, KeepsEdge, edge-kept, edge-lives, edge-made, edge-shown}
+use Rattle.solid_calls.proofs.Deaths.{all_attributes, length-dying}
+use Rattle.halfedge.proofs.LinkedRings.{ring-kept, any_ring, ring_of_any-kept}
 use Rattle.solid_calls.proofs.Represented.{Represents, Shows, represented, represents-sound}
-use Rattle.solid_edits.proofs.WrittenMaps.{edited}
+use Rattle.solid_edits.proofs.WrittenMaps.{edited, ring-shown}
 use Rattle.solid_edits.proofs.KilledMaps.{GainsNoAttribute, unless-fin, unless-plain}
-use Rattle.solid_edits.proofs.PlacedAnew.{IsFinOf, IsSameElsewhere, elsewhere-fin, elsewhere-plain, relabels-elsewhere, relabels-links, relabels-named, relinks-elsewhere, relinks-named, unplaced}
+use Rattle.solid_edits.proofs.PlacedAnew.{IsSameElsewhere, elsewhere-plain, relabels-elsewhere, relabels-links, relabels-named, relinks-elsewhere, relinks-named, unplaced}
 use Rattle.solid_edits.proofs.PlacedFins.{placed-class, placed-listed, placed-loop, placed-named}
-use Rattle.euler_make.proofs.MekrFound.{joined_row, mekr-is, AreEnds}
-
--- ---- the edge that is put
-
-module _ (m : EntityMap) (e f g body l from to : Tag) (once : NoRepeats (e ∷ f ∷ g ∷ [])) where
-  abbrev out : Entity
-  out = entity.Fin l f f g e from
-
-  abbrev back : Entity
-  back = entity.Fin l g g f e to
-
-  abbrev with_first : EntityMap
-  with_first = with_entity m e (Some (entity.Edge body f))
-
-  abbrev with_out : EntityMap
-  with_out = with_entity with_first f (Some out)
-
-  abbrev new : EntityMap
-  new = with_edge m e f g body l from to
-
-  pub edge-other : (t : Tag) → NoneOf t (e ∷ f ∷ g ∷ []) → get new t ≡ get m t
-  edge-other t none = get_other with_out g (Some back) t none.1.1.0 ∙ get_other with_first f (Some out) t none.1.0 ∙ get_other m e (Some (entity.Edge body f)) t none.0
-
-  pub edge-edge : get new e ≡ Some (entity.Edge body f)
-  edge-edge = get_other with_out g (Some back) e once.0.1.0 ∙ get_other with_first f (Some out) e once.0.0 ∙ get_put m e (Some (entity.Edge body f))
-
-  pub edge-fin : get new f ≡ Some out
-  edge-fin = get_other with_out g (Some back) f once.1.0.0 ∙ get_put with_first f (Some out)
-
-  pub edge-mate : get new g ≡ Some back
-  edge-mate = get_put with_out g (Some back)
+use Rattle.euler_make.proofs.MekrFound.{edge_between, joined_row, mekr-is, AreEnds}
 
 module _ (m : EntityMap) (k r : Tag) (u v : End) (at_k at_r : Option Tag) (at : AreEnds m k r u v at_k at_r) where
   abbrev S : Shape
@@ -112,8 +83,8 @@ module _ (m : EntityMap) (k r : Tag) (u v : End) (at_k at_r : Option Tag) (at : 
   l_class : class_at S u.loop_ ≡ Some class.Loop
   l_class = ap (option_map class_of_item) E.loop_is
 
-  v_class : class_at S v.loop_ ≡ Some class.Loop
-  v_class = ap (option_map class_of_item) G.loop_is
+  pub ring-class : class_at S v.loop_ ≡ Some class.Loop
+  ring-class = ap (option_map class_of_item) G.loop_is
 
   in_a : (t : Tag) → Contains mekr_a t → Contains v.fins t
   in_a t c = subst (λ ts. Contains ts t) (sym at.joined) c
@@ -168,34 +139,35 @@ module _ (m : EntityMap) (k r : Tag) (u v : End) (at_k at_r : Option Tag) (at : 
 
   -- ---- room
 
+  cost : cost_of (mekr S k r) ≡ 3
+  cost = ap cost_of (mekr-is S k r u v at.found at.other at.apart)
+
   -- all that may be put
   abbrev pub mekr_tags : Tag → Tag → Tag → List Tag
-  mekr_tags e f g = (e ∷ f ∷ g ∷ u.loop_ ∷ []) ++ (with_attributes m (v.loop_ ∷ []) ++ (mekr_a ++ mekr_b))
+  mekr_tags e f g = e ∷ f ∷ g ∷ dying S (v.loop_ ∷ []) ++ u.loop_ ∷ ends_of mekr_b ++ mekr_a
 
-  pub mekr-counts : puts_of S (Mekr k r) ≡ 5 + length mekr_b + length mekr_a + length (attributes_on m v.loop_)
+  pub mekr-puts : (e f g : Tag) (tags more : List Tag) → tags ≡ e ∷ f ∷ g ∷ more → tags_put S (Mekr k r) tags ≡ mekr_tags e f g
+  mekr-puts e f g tags more taken =
+      (λ i. take (cost i) (taken i) ++ if_found (λ p. if_found (changed_by_mekr S p) (at.other i)) (at.found i))
+      ∙ (λ i. e ∷ f ∷ g ∷ dying S (v.loop_ ∷ []) ++ u.loop_ ∷ ends_of (at.kept i) ++ at.joined i)
+
+  pub mekr-counts : puts_of S (Mekr k r) ≡ 5 + length (ends_of mekr_b) + length mekr_a + length (attributes_on m v.loop_)
   mekr-counts =
-      let dead = deaths-of m (v.loop_ ∷ []) at.sound (tt, tt) ((class.Loop, v_class, (λ c. cc)), tt) in
+      let dying_are : length (dying S (v.loop_ ∷ [])) ≡ 1 + length (all_attributes m (v.loop_ ∷ [])) = length-dying m (v.loop_ ∷ []) at.sound (tt, tt) ((class.Loop, ring-class, (λ c. cc)), tt) in
       let own = length-append (attributes_on m v.loop_) [] in
-      let kept : length u.fins ≡ length mekr_b = ap length at.kept in
-      let joined : length v.fins ≡ length mekr_a = ap length at.joined in
-      let sum : puts_of_mekr S u v ≡ 5 + length mekr_b + length mekr_a + length (attributes_on m v.loop_) = omega (arith, dead, own, kept, joined) in
-      ap (if_found (λ p. if_found (puts_of_mekr S p) (end_at S r))) at.found ∙ ap (if_found (puts_of_mekr S u)) at.other ∙ sum
-
-  pub mekr-puts : (e f g : Tag) → puts_of S (Mekr k r) ≡ length (mekr_tags e f g)
-  mekr-puts e f g =
-      let all = length-append (e ∷ f ∷ g ∷ u.loop_ ∷ []) (with_attributes m (v.loop_ ∷ []) ++ (mekr_a ++ mekr_b)) in
-      let more = length-append (with_attributes m (v.loop_ ∷ [])) (mekr_a ++ mekr_b) in
-      let rings = length-append mekr_a mekr_b in
-      let own = length-append (attributes_on m v.loop_) [] in
-      let dead = length-append (v.loop_ ∷ []) (flat_map (attributes_on m) (v.loop_ ∷ [])) in
-      let counts = mekr-counts in
-      omega (arith, all, more, rings, own, dead, counts)
+      let changed : tags_changed S (Mekr k r) ≡ dying S (v.loop_ ∷ []) ++ u.loop_ ∷ ends_of mekr_b ++ mekr_a =
+      (λ i. if_found (λ p. if_found (changed_by_mekr S p) (at.other i)) (at.found i)) ∙ (λ i. dying S (v.loop_ ∷ []) ++ u.loop_ ∷ ends_of (at.kept i) ++ at.joined i) in
+      let whole = ap length changed in
+      let all = length-append (dying S (v.loop_ ∷ []) ++ u.loop_ ∷ ends_of mekr_b) mekr_a in
+      let front = length-append (dying S (v.loop_ ∷ [])) (u.loop_ ∷ ends_of mekr_b) in
+      let three = cost in
+      omega (arith, three, whole, dying_are, own, all, front)
 
   -- ---- the edge is made
 
   -- the ring is given to the loop in m1, and the edge is put into m4
   module _ (e f g : Tag) (once : NoRepeats (e ∷ f ∷ g ∷ [])) (free : AllByRecursion (λ t. get m t ≡ None) (e ∷ f ∷ g ∷ [])) (m1 m4 : EntityMap) (labels : Relabels m mekr_a u.loop_ m1)
-      (made : m4 ≡ with_edge m1 e f g u.body u.loop_ u.vertex v.vertex) where
+      (made : m4 ≡ with_edge m1 (edge_between u v e f g)) where
     abbrev news : List Tag
     news = e ∷ f ∷ g ∷ []
 
@@ -214,22 +186,13 @@ module _ (m : EntityMap) (k r : Tag) (u v : End) (at_k at_r : Option Tag) (at : 
         clash : (d : Class) → None ≡ Some d → ⊥
         clash d h = cc
 
-    m4-other : (t : Tag) → NoneOf t news → get m4 t ≡ get m1 t
-    m4-other t none = ap (λ x. get x t) made ∙ edge-other m1 e f g u.body u.loop_ u.vertex v.vertex once t none
-
-    m4-edge : get m4 e ≡ Some (entity.Edge u.body f)
-    m4-edge = ap (λ x. get x e) made ∙ edge-edge m1 e f g u.body u.loop_ u.vertex v.vertex once
-
-    m4-fin : get m4 f ≡ Some (entity.Fin u.loop_ f f g e u.vertex)
-    m4-fin = ap (λ x. get x f) made ∙ edge-fin m1 e f g u.body u.loop_ u.vertex v.vertex once
-
-    m4-mate : get m4 g ≡ Some (entity.Fin u.loop_ g g f e v.vertex)
-    m4-mate = ap (λ x. get x g) made ∙ edge-mate m1 e f g u.body u.loop_ u.vertex v.vertex once
+    pub mekr-has_edge : HasEdge m1 (edge_between u v e f g) m4
+    mekr-has_edge = subst (HasEdge m1 (edge_between u v e f g)) (sym made) (edge-made m1 (edge_between u v e f g) once)
 
     -- a live fin keeps its links
     m4-links : (t : Tag) → class_at S t ≡ Some class.Fin → (next_at m4 t ≡ next_at m t) × (prev_at m4 t ≡ prev_at m t)
     m4-links t h =
-        let same = m4-other t (not_new t class.Fin h) in
+        let same = mekr-has_edge.others t (not_new t class.Fin h) in
         let links = relabels-links m m1 mekr_a u.loop_ labels t in
         (ap (λ (x : Option Entity). option_map (λ (y : FinFields). y.next) (option_and_then as_fin x)) same ∙ links.0, ap (λ (x : Option Entity). option_map (λ (y : FinFields). y.prev) (option_and_then as_fin x)) same ∙ links.1)
 
@@ -238,12 +201,6 @@ module _ (m : EntityMap) (k r : Tag) (u v : End) (at_k at_r : Option Tag) (at : 
 
     pub mekr-kept : (ring_of_any m4 at_k ≡ mekr_b) × IfSome at_k (IsInRing m4)
     mekr-kept = ring_of_any-kept m m4 at_k at.kept_ring (λ t c. m4-links t (b-class t c))
-
-    pub mekr-fin_alone : IsRing m4 (f ∷ [])
-    mekr-fin_alone = ring_alone m4 f u.loop_ g e u.vertex m4-fin
-
-    pub mekr-mate_alone : IsRing m4 (g ∷ [])
-    mekr-mate_alone = ring_alone m4 g u.loop_ f e v.vertex m4-mate
 
     -- no fin stands in the ring twice
     pub mekr-once : NoRepeats ring
@@ -274,7 +231,7 @@ module _ (m : EntityMap) (k r : Tag) (u v : End) (at_k at_r : Option Tag) (at : 
       -- such a tag is of another loop, or no fin
       m5-other : (t : Tag) → NoneOf t news → ¬ (Contains mekr_a t) → ¬ (Contains mekr_b t) → get m5 t ≡ get m1 t
       m5-other t none no_a no_b =
-          joins.others t (no_a, (no_b, ((λ c. none.1.0 (sym (Contains-only f t c))), ((λ c. none.1.1.0 (sym (Contains-only g t c))), tt)))) ∙ m4-other t none
+          joins.others t (no_a, (no_b, ((λ c. none.1.0 (sym (Contains-only f t c))), ((λ c. none.1.1.0 (sym (Contains-only g t c))), tt)))) ∙ mekr-has_edge.others t none
 
       n-other : (t : Tag) → t ≢ u.loop_ → get n t ≡ get m5 t
       n-other t other = ap (λ x. get x t) put ∙ get_other m5 u.loop_ (Some (entity.Loop u.face (Some least) None)) t other
@@ -285,34 +242,27 @@ module _ (m : EntityMap) (k r : Tag) (u v : End) (at_k at_r : Option Tag) (at : 
       not_l : (t : Tag) → get m t ≡ None → t ≢ u.loop_
       not_l t none same = mekr-loop_live t none (sym same)
 
+      -- but for the loop, it differs from m4 only in where fins stand
+      linked : (t : Tag) → t ≢ u.loop_ → IsSameElsewhere m4 n t
+      linked t other = ap (option_map unplaced) (n-other t other) ∙ relinks-elsewhere m4 m5 _ _ joins t
+
       elsewhere : (t : Tag) → NoneOf t (tags_in xs) → IsSameElsewhere m n t
       elsewhere t none =
-          ap (option_map unplaced) (n-other t none.1.1.1.0) ∙ relinks-elsewhere m4 m5 _ _ joins t
-          ∙ ap (option_map unplaced) (m4-other t (none.0, (none.1.0, (none.1.1.0, tt)))) ∙ relabels-elsewhere m m1 mekr_a u.loop_ labels t
+          linked t none.1.1.1.0 ∙ ap (option_map unplaced) (mekr-has_edge.others t (none.0, (none.1.0, (none.1.1.0, tt)))) ∙ relabels-elsewhere m m1 mekr_a u.loop_ labels t
 
-      n-fin : IsFinOf (get n f) g e u.vertex
-      n-fin =
-          let h = elsewhere-fin m4 m5 f g e u.vertex (relinks-elsewhere m4 m5 _ _ joins f) (u.loop_, f, f, m4-fin) in
-          (h.0, h.1, h.2, n-other f (not_l f free.1.0) ∙ h.3)
-
-      n-mate : IsFinOf (get n g) f e v.vertex
-      n-mate =
-          let h = elsewhere-fin m4 m5 g f e v.vertex (relinks-elsewhere m4 m5 _ _ joins g) (u.loop_, g, g, m4-mate) in
-          (h.0, h.1, h.2, n-other g (not_l g free.1.1.0) ∙ h.3)
-
-      n-edge : get n e ≡ Some (entity.Edge u.body f)
-      n-edge = n-other e (not_l e free.0) ∙ elsewhere-plain m4 m5 e (entity.Edge u.body f) (relinks-elsewhere m4 m5 _ _ joins e) refl m4-edge
+      keeps : KeepsEdge (edge_between u v e f g) n
+      keeps = edge-kept m1 m4 n (edge_between u v e f g) mekr-has_edge (linked e (not_l e free.0), (linked f (not_l f free.1.0), (linked g (not_l g free.1.1.0), tt)))
 
       -- an attribute there was one before
       pub mekr-attribute : GainsNoAttribute m n
       mekr-attribute o t (name, value, is) =
           let here = λ (x : Tag) (y : Entity) (there : get n x ≡ Some y) (same : t ≡ x). let both : Some (entity.Attr o name value) ≡ Some y = sym is ∙ ap (get n) same ∙ there in both in
           let old : NoneOf t (tags_in xs) = (
-            (λ same. let both = here e (entity.Edge u.body f) n-edge same in cc),
+            (λ same. let both = here e (entity.Edge u.body f) keeps.edge_is same in cc),
             (
-              (λ same. let both = here f (entity.Fin n-fin.0 n-fin.1 n-fin.2 g e u.vertex) n-fin.3 same in cc),
+              (λ same. let fin = keeps.fin_is in let both = here f (entity.Fin fin.0 fin.1 fin.2 g e u.vertex) fin.3 same in cc),
               (
-                (λ same. let both = here g (entity.Fin n-mate.0 n-mate.1 n-mate.2 f e v.vertex) n-mate.3 same in cc),
+                (λ same. let fin = keeps.mate_is in let both = here g (entity.Fin fin.0 fin.1 fin.2 f e v.vertex) fin.3 same in cc),
                 ((λ same. let both = here u.loop_ (entity.Loop u.face (first_tag (from_least ring)) None) n-loop same in cc), tt),
               ),
             ),
@@ -329,14 +279,14 @@ module _ (m : EntityMap) (k r : Tag) (u v : End) (at_k at_r : Option Tag) (at : 
         R = S with xs without killed
 
         fin_lives : (t : Tag) → class_at S t ≡ Some class.Fin → NoneOf t killed
-        fin_lives t h = (class_apart S t v.loop_ class.Fin class.Loop h v_class (λ c. cc), tt)
+        fin_lives t h = (class_apart S t v.loop_ class.Fin class.Loop h ring-class (λ c. cc), tt)
 
         fin_other : (t : Tag) → class_at S t ≡ Some class.Fin → t ≢ u.loop_
         fin_other t h = class_apart S t u.loop_ class.Fin class.Loop h l_class (λ c. cc)
 
         new_lives : NoneOf e killed × NoneOf f killed × NoneOf g killed
         new_lives =
-            let none = not_new v.loop_ class.Loop v_class in
+            let none = not_new v.loop_ class.Loop ring-class in
             (((λ c. none.0 (sym c)), tt), ((λ c. none.1.0 (sym c)), tt), ((λ c. none.1.1.0 (sym c)), tt))
 
         once_new : NoRepeats (tags_in xs)
@@ -346,7 +296,7 @@ module _ (m : EntityMap) (k r : Tag) (u v : End) (at_k at_r : Option Tag) (at : 
         )
 
         dead_apart : NoneOf v.loop_ (tags_in xs)
-        dead_apart = let none = not_new v.loop_ class.Loop v_class in (none.0, (none.1.0, (none.1.1.0, ((λ c. other_loop (sym c)), tt))))
+        dead_apart = let none = not_new v.loop_ class.Loop ring-class in (none.0, (none.1.0, (none.1.1.0, ((λ c. other_loop (sym c)), tt))))
 
         plain : AllByRecursion (λ x. NotAttr (class_of_item x.1)) xs
         plain = ((λ c. cc), ((λ c. cc), ((λ c. cc), ((λ c. cc), tt))))
@@ -375,10 +325,10 @@ module _ (m : EntityMap) (k r : Tag) (u v : End) (at_k at_r : Option Tag) (at : 
 
         m4-named : (t : Tag) → Contains ring t → loop_named m4 t ≡ Some u.loop_
         m4-named t c = in_ring t c (loop_named m4 t ≡ Some u.loop_)
-            (λ h. subst (λ x. loop_named m4 x ≡ Some u.loop_) h (ap named_by m4-fin))
-            (λ h. subst (λ x. loop_named m4 x ≡ Some u.loop_) h (ap named_by m4-mate))
-            (λ h. ap named_by (m4-other t (not_new t class.Fin (a-class t h))) ∙ relabels-named m m1 mekr_a u.loop_ a_ring labels t h)
-            (λ h. ap named_by (m4-other t (not_new t class.Fin (b-class t h)) ∙ labels.others t (λ i. not_both t i h))
+            (λ h. subst (λ x. loop_named m4 x ≡ Some u.loop_) h (ap named_by mekr-has_edge.fin_is))
+            (λ h. subst (λ x. loop_named m4 x ≡ Some u.loop_) h (ap named_by mekr-has_edge.mate_is))
+            (λ h. ap named_by (mekr-has_edge.others t (not_new t class.Fin (a-class t h))) ∙ relabels-named m m1 mekr_a u.loop_ a_ring labels t h)
+            (λ h. ap named_by (mekr-has_edge.others t (not_new t class.Fin (b-class t h)) ∙ labels.others t (λ i. not_both t i h))
             ∙ placed-named well E m was t (in_b t h))
 
         q-named : (t : Tag) → Contains ring t → loop_named q t ≡ Some u.loop_
@@ -386,36 +336,17 @@ module _ (m : EntityMap) (k r : Tag) (u v : End) (at_k at_r : Option Tag) (at : 
 
         -- ---- what is written
 
-        stands : (t : Tag) (x : Entity) → NoneOf t killed → unless_on_any killed (Some x) ≡ Some x → get n t ≡ Some x → get q t ≡ Some x
-        stands t x live stays there = kills.others t live ∙ ap (unless_on_any killed) there ∙ stays
+        loop_there : get q u.loop_ ≡ Some (entity.Loop u.face (first_tag (from_least ring)) None)
+        loop_there = kills.others u.loop_ (other_loop, tt) ∙ ap (unless_on_any killed) n-loop ∙ unless-plain killed (entity.Loop u.face (first_tag (from_least ring)) None) (λ o. refl)
 
-        loop_shown : Shows R q u.loop_ (Loop u.face (from_least ring) None)
-        loop_shown = (
-          stands u.loop_ (entity.Loop u.face (first_tag (from_least ring)) None) (other_loop, tt) (unless-plain killed (entity.Loop u.face (first_tag (from_least ring)) None) (λ o. refl)) n-loop,
-          ring-least q ring q-ring,
-          ByRecursion-contains (λ t. loop_named q t ≡ Some u.loop_) (from_least ring) (λ t c. q-named t (least-in t ring c)),
+        lives : KeepsEdge (edge_between u v e f g) q
+        lives = edge-lives n q (edge_between u v e f g) killed keeps kills (new_lives.0, (new_lives.1, (new_lives.2, tt)))
+
+        shown : AllByRecursion (λ (y : Tag × Item). Shows R q y.0 y.1) xs
+        shown = (
+          edge-shown R q (edge_between u v e f g) lives less (ed.news f (Fin g e u.vertex) (1, omega arith, refl)),
+          (lives.fin_is, (lives.mate_is, (ring-shown R q u.loop_ u.face ring loop_there q-ring q-named, tt))),
         )
-
-        edge_shown : Shows R q e (Edge u.body)
-        edge_shown = (
-          f,
-          stands e (entity.Edge u.body f) new_lives.0 (unless-plain killed (entity.Edge u.body f) (λ o. refl)) n-edge,
-          record {
-            mate = g;
-            vertex = u.vertex;
-            fin_is = ed.news f (Fin g e u.vertex) (1, omega arith, refl);
-            less = less;
-          },
-        )
-
-        fin_shown : Shows R q f (Fin g e u.vertex)
-        fin_shown = (n-fin.0, n-fin.1, n-fin.2, stands f _ new_lives.1 (unless-plain killed (entity.Fin n-fin.0 n-fin.1 n-fin.2 g e u.vertex) (λ o. refl)) n-fin.3)
-
-        mate_shown : Shows R q g (Fin f e v.vertex)
-        mate_shown = (n-mate.0, n-mate.1, n-mate.2, stands g _ new_lives.2 (unless-plain killed (entity.Fin n-mate.0 n-mate.1 n-mate.2 f e v.vertex) (λ o. refl)) n-mate.3)
-
-        shown : (t : Tag) (x : Item) → Contains xs (t, x) → Shows R q t x
-        shown t x c = ByRecursion-at (λ (y : Tag × Item). Shows R q y.0 y.1) xs (t, x) (edge_shown, (fin_shown, (mate_shown, (loop_shown, tt)))) c
 
         -- ---- what stays
 
@@ -436,7 +367,8 @@ module _ (m : EntityMap) (k r : Tag) (u v : End) (at_k at_r : Option Tag) (at : 
         -- ---- all
 
         mekr-represents : Represents R q
-        mekr-represents = edited S m n q xs killed well was once_new (tt, tt) (dead_apart, tt) plain kills elsewhere other_loops other_edges shown
+        mekr-represents = edited S m n q xs killed well was once_new (tt, tt) (dead_apart, tt) plain kills elsewhere other_loops other_edges
+            (λ t x c. ByRecursion-at (λ (y : Tag × Item). Shows R q y.0 y.1) xs (t, x) shown c)
 
         row_shape : (S with (e, Edge u.body) ∷ (f, Fin g e u.vertex) ∷ (g, Fin f e v.vertex) ∷ (u.loop_, ring_of u.face (f ∷ v.fins ++ g ∷ u.fins)) ∷ [] without killed) ≡ R
         row_shape = λ i. S with (e, Edge u.body) ∷ (f, Fin g e u.vertex) ∷ (g, Fin f e v.vertex) ∷ (u.loop_, Loop u.face (from_least (f ∷ at.joined i ++ g ∷ at.kept i)) None) ∷ [] without killed

@@ -1,28 +1,28 @@
 -- mekr: the steps from one map to the next, and how far each has come.
-use Rattle.std.proofs.Common.{◌≡◌, ◌≤◌, ⊎_elim, List, [], ◌∷◌, ◌++◌, length, Option, Some, sym, ap, subst, ◌∙◌, arith}
+use Rattle.std.proofs.Common.{◌≡◌, ⊎_elim, List, [], ◌∷◌, ◌++◌, Option, Some, sym, ap, subst, ◌∙◌}
 use Rattle.std.specs.Prelude.{Contains}
 use Rattle.std.specs.FinMap.{get}
 use Rattle.std.proofs.lemmas.List.Elements.{Contains-append_cases, Contains-append_left, Contains-append_right}
 use Rattle.pk_base.specs.declared.tag.Tag.{Tag}
 use Rattle.pk_base.specs.declared.entity.Entity.{Entity}
-use Rattle.pk_base.specs.declared.call.Call.TheVariants.{Mekr}
+use Rattle.pk_base.specs.declared.entity.Class.TheVariants as class
 use Rattle.pk_model.specs.Maps.{EntityMap, with_entity}
 use Rattle.entity_store.specs.Recorder.{began}
-use Rattle.entity_store.specs.Recording.{recorded_put, room_left}
+use Rattle.entity_store.specs.Recording.{recorded_put}
 use Rattle.entity_store.specs.Store.{Stored, StoreView}
 use Rattle.solid_model.specs.Places.{End}
-use Rattle.solid_model.specs.Room.{puts_of}
+use Rattle.solid_model.specs.Room.{dying}
 use Rattle.solid_model.specs.Shapes.{shape_of}
 use Rattle.solid_calls.specs.Attributes.{attributes_on}
-use Rattle.solid_calls.specs.LinkedRings.{ends_of, ring_of_any}
-use Rattle.solid_calls.specs.Room.{HasRoomForThese, PutsAmong}
-use Rattle.solid_edits.specs.Deaths.{with_attributes}
-use Rattle.solid_calls.proofs.Room.{room-of_length}
+use Rattle.solid_model.specs.Rings.{ends_of}
+use Rattle.halfedge.specs.LinkedRings.{ring_of_any}
+use Rattle.entity_store.specs.Room.{PutsAmong}
 use Rattle.solid_edits.proofs.EditedMaps.{ends-among}
 use Rattle.solid_edits.proofs.KilledMaps.{GainsNoAttribute, death-among}
-use Rattle.list_facts.proofs.Elements.{Contains-first, Contains-later, Contains-cases, Contains-only}
+use Rattle.list_facts.proofs.Elements.{Contains-first, Contains-later}
 use Rattle.euler_make.proofs.MekrFound.{AreEnds}
-use Rattle.euler_make.proofs.MekrReached.{mekr-puts, mekr_tags}
+use Rattle.euler_make.proofs.MekrReached.{mekr_tags, ring-class}
+use Rattle.solid_edits.proofs.Dying.{dying-has}
 use Rattle.solid_edits.proofs.Stages.{IsStage, Within, stage-none, stage-put, stage-then}
 
 module _ (s0 : StoreView) (k r : Tag) (u v : End) (at_k at_r : Option Tag) (at : AreEnds s0.state.map k r u v at_k at_r) (e f g : Tag) where
@@ -38,64 +38,44 @@ module _ (s0 : StoreView) (k r : Tag) (u v : End) (at_k at_r : Option Tag) (at :
   abbrev news : List Tag
   news = e ∷ f ∷ g ∷ []
 
-  abbrev dead : List Tag
-  dead = with_attributes m (v.loop_ ∷ [])
-
   abbrev ts : List Tag
   ts = mekr_tags m k r u v at_k at_r at e f g
 
-  pub mekr-room : puts_of (shape_of m) (Mekr k r) ≤ room_left s0.recording → HasRoomForThese s0.recording ts
-  mekr-room h = room-of_length s0.recording ts (subst (λ n. n ≤ room_left s0.recording) (mekr-puts m k r u v at_k at_r at e f g) h)
+  abbrev dead : List Tag
+  dead = dying (shape_of m) (v.loop_ ∷ [])
 
-  pub mekr-few : length ts ≤ puts_of (shape_of m) (Mekr k r)
-  mekr-few = let same = mekr-puts m k r u v at_k at_r at e f g in omega (arith, same)
-
-  put_first : Within (e ∷ f ∷ g ∷ u.loop_ ∷ []) ts
-  put_first t c = Contains-append_left (e ∷ f ∷ g ∷ u.loop_ ∷ []) (dead ++ (A ++ B)) t c
-
-  rings_in : Within (A ++ B) ts
-  rings_in t c = Contains-append_right (e ∷ f ∷ g ∷ u.loop_ ∷ []) (dead ++ (A ++ B)) t (Contains-append_right dead (A ++ B) t c)
-
-  pub mekr-has_edge : Contains ts e
-  mekr-has_edge = put_first e (Contains-first e (f ∷ g ∷ u.loop_ ∷ []))
-
-  pub mekr-has_fin : Contains ts f
-  mekr-has_fin = put_first f (Contains-later e (f ∷ g ∷ u.loop_ ∷ []) f (Contains-first f (g ∷ u.loop_ ∷ [])))
-
-  pub mekr-has_mate : Contains ts g
-  mekr-has_mate = put_first g (Contains-later e (f ∷ g ∷ u.loop_ ∷ []) g (Contains-later f (g ∷ u.loop_ ∷ []) g (Contains-first g (u.loop_ ∷ []))))
-
-  pub mekr-has_loop : Contains ts u.loop_
-  mekr-has_loop = put_first u.loop_ (Contains-later e (f ∷ g ∷ u.loop_ ∷ []) u.loop_ (Contains-later f (g ∷ u.loop_ ∷ []) u.loop_ (Contains-later g (u.loop_ ∷ []) u.loop_ (Contains-first u.loop_ []))))
+  -- the loop, and the fins that the edge is put beside
+  abbrev kept : List Tag
+  kept = u.loop_ ∷ ends_of B
 
   pub mekr-has_new : Within news ts
-  mekr-has_new t c = ⊎_elim
-      (λ (i : e ≡ t). subst (Contains ts) i mekr-has_edge)
-      (λ (d : Contains (f ∷ g ∷ []) t). ⊎_elim
-      (λ (i : f ≡ t). subst (Contains ts) i mekr-has_fin)
-      (λ (i : Contains (g ∷ []) t). subst (Contains ts) (Contains-only g t i) mekr-has_mate)
-      (Contains-cases f (g ∷ []) t d))
-      (Contains-cases e (f ∷ g ∷ []) t c)
+  mekr-has_new t c = Contains-append_left news ((dead ++ kept) ++ A) t c
 
   pub mekr-has_a : Within A ts
-  mekr-has_a t c = rings_in t (Contains-append_left A B t c)
+  mekr-has_a t c = Contains-append_right news ((dead ++ kept) ++ A) t (Contains-append_right (dead ++ kept) A t c)
 
-  -- the fins that the edge is put beside
+  front_in : Within (dead ++ kept) ts
+  front_in t c = Contains-append_right news ((dead ++ kept) ++ A) t (Contains-append_left (dead ++ kept) A t c)
+
+  kept_in : Within kept ts
+  kept_in t c = front_in t (Contains-append_right dead kept t c)
+
+  pub mekr-has_loop : Contains ts u.loop_
+  mekr-has_loop = kept_in u.loop_ (Contains-first u.loop_ (ends_of B))
+
   pub mekr-has_ends : Within (f ∷ g ∷ ends_of A ++ ends_of B) ts
   mekr-has_ends t c = ⊎_elim
-      (λ (i : f ≡ t). subst (Contains ts) i mekr-has_fin)
-      (λ (d : Contains (g ∷ ends_of A ++ ends_of B) t). ⊎_elim
-      (λ (i : g ≡ t). subst (Contains ts) i mekr-has_mate)
-      (λ (i : Contains (ends_of A ++ ends_of B) t). ⊎_elim
-      (λ (a : Contains (ends_of A) t). rings_in t (Contains-append_left A B t (ends-among A t a)))
-      (λ (b : Contains (ends_of B) t). rings_in t (Contains-append_right A B t (ends-among B t b)))
-      (Contains-append_cases (ends_of A) (ends_of B) t i))
-      (Contains-cases g (ends_of A ++ ends_of B) t d))
-      (Contains-cases f (g ∷ ends_of A ++ ends_of B) t c)
+      (λ (i : Contains (f ∷ g ∷ ends_of A) t). ⊎_elim
+      (λ (n : Contains (f ∷ g ∷ []) t). mekr-has_new t (Contains-later e (f ∷ g ∷ []) t n))
+      (λ (a : Contains (ends_of A) t). mekr-has_a t (ends-among A t a))
+      (Contains-append_cases (f ∷ g ∷ []) (ends_of A) t i))
+      (λ (b : Contains (ends_of B) t). kept_in t (Contains-later u.loop_ (ends_of B) t b))
+      (Contains-append_cases (f ∷ g ∷ ends_of A) (ends_of B) t c)
 
   pub mekr-has_dead : (n : EntityMap) → GainsNoAttribute m n → Within (v.loop_ ∷ attributes_on n v.loop_) ts
-  mekr-has_dead n were t c = Contains-append_right (e ∷ f ∷ g ∷ u.loop_ ∷ []) (dead ++ (A ++ B)) t
-      (Contains-append_left dead (A ++ B) t (death-among m n (v.loop_ ∷ []) v.loop_ were (Contains-first v.loop_ []) t c))
+  mekr-has_dead n were t c = front_in t (Contains-append_left dead kept t
+      (dying-has m (v.loop_ ∷ []) ((class.Loop, ring-class m k r u v at_k at_r at, (λ h. cc)), tt) t
+      (death-among m n (v.loop_ ∷ []) v.loop_ were (Contains-first v.loop_ []) t c)))
 
   -- the ring is given to the loop
   pub mekr-one : (s1 : StoreView) → s1.state ≡ record s0.state { map = s1.state.map } → PutsAmong A s0 s1 → IsStage ts s0 s1

@@ -1,9 +1,10 @@
 -- mev: what each step asks for, and that the last one does what the row says.
-use Rattle.std.proofs.Common.{◌≡◌, ◌≢◌, ⊎_elim, List, [], ◌∷◌, Some, None, refl, sym, ap, subst, ◌∙◌, take, arith}
+use Rattle.std.proofs.Common.{◌≡◌, ◌≢◌, ⊎_elim, List, [], ◌∷◌, ◌++◌, Option, Some, None, refl, sym, ap, subst, ◌∙◌, take, arith}
 use Rattle.std.specs.Prelude.{Contains, IfSome, IsTrue}
+use Rattle.std.specs.Option.{option_map_or}
 use Rattle.std.specs.List.{AllByRecursion}
 use Rattle.std.specs.FinMap.{get}
-use Rattle.std.proofs.lemmas.List.Elements.{Contains-append_left, Contains-append_right}
+use Rattle.std.proofs.lemmas.List.Elements.{Contains-append_left, Contains-append_right, Contains-append_cases}
 use Rattle.pk_base.specs.Building.{Building}
 use Rattle.pk_base.specs.declared.tag.Tag.{Tag}
 use Rattle.pk_base.specs.declared.call.Call.TheVariants as call
@@ -14,44 +15,47 @@ use Rattle.pk_model.specs.Apart.{NoRepeats}
 use Rattle.pk_model.specs.Maps.{EntityMap, with_entity}
 use Rattle.pk_model.specs.Tags.{TagsAscend, owns}
 use Rattle.entity_store.specs.NextTags.{TagsView, left}
-use Rattle.entity_store.specs.Recording.{HasRoomFor}
+use Rattle.entity_store.specs.Recorder.{began}
+use Rattle.entity_store.specs.Recording.{HasRoomFor, recorded_put}
 use Rattle.entity_store.specs.Store.{IsHosted, Stored, StoreView}
 use Rattle.solid_model.specs.Sound.{IsSound}
 use Rattle.solid_model.specs.Items.{Shape, item_at, ◌with◌}
 use Rattle.solid_model.specs.Items.Item.{Body, Loop}
-use Rattle.solid_model.specs.Rings.{first_tag, from_least}
-use Rattle.solid_model.specs.Rows.{Row}
+use Rattle.solid_model.specs.Rings.{lesser, first_tag, from_least, ends_of}
+use Rattle.solid_model.specs.Rows.{Row, cost_of}
 use Rattle.solid_model.specs.Places.{End}
 use Rattle.solid_model.specs.Ranges.{point_of}
 use Rattle.solid_model.specs.Links.{links}
 use Rattle.solid_model.specs.Shapes.{shape_of}
-use Rattle.solid_model.specs.Euler.{cost_of}
 use Rattle.solid_model.specs.Mev.{mev}
-use Rattle.list_facts.proofs.Elements.{Contains-cases, Contains-only}
+use Rattle.list_facts.proofs.Elements.{Contains-later}
 use Rattle.solid_sound.proofs.rows.Asked.{free_item}
 use Rattle.solid_sound.proofs.edges.Ends.{EndIn, end-well}
 use Rattle.solid_sound.proofs.rows.KeptMev.{mev-keeps}
 use Rattle.solid_sound.proofs.rows.RowKeeps.{IsWell, well-shape, sound-links}
-use Rattle.solid_calls.specs.LinkedRings.{IsInRing, IsRing, Relinks, ends_of, ring_at, ring_of_any}
+use Rattle.halfedge.specs.LinkedRings.{IsInRing, IsRing, Relinks, ring_of_any}
 use Rattle.solid_calls.specs.Pairs.{HasDone, reached}
-use Rattle.solid_calls.specs.Room.{HasRoomForThese, PutsAmong}
+use Rattle.entity_store.specs.Room.{HasRoomForThese, PutsAmong}
 use Rattle.list_facts.proofs.Each.{ByRecursion-weaker, ByRecursion-left}
 use Rattle.solid_calls.proofs.Sizes.{apart-ascending, ascend-left}
-use Rattle.solid_sound.proofs.lists.Neighbours.{none-of}
+use Rattle.pk_model.proofs.TagLists.{NoneOf}
+use Rattle.solid_model.proofs.lists.Neighbours.{none-of}
 use Rattle.solid_sound.proofs.shapes.Edits.{live-none_of}
-use Rattle.solid_edits.proofs.Stages.{only-put, only-then, same-blocks}
+use Rattle.solid_edits.proofs.Stages.{IsStage, Within, only-put, stage-none, stage-owns, stage-put, stage-room, stage-room_one, stage-then}
 use Rattle.euler_make.specs.declared.mev.Strut.{Strut}
 use Rattle.solid_places.specs.declared.ends.End.{End as PlacedEnd}
-use Rattle.euler_make.specs.Struts.{with_strut}
-use Rattle.solid_calls.proofs.LinkedRings.{in-ring_from, ring_at-is, any_ring, ring_alone}
+use Rattle.solid_edits.specs.Faces.{IsLoop}
+use Rattle.euler_make.specs.FirstFins.{first_named}
+use Rattle.solid_edits.specs.NewEdges.{with_edge}
+use Rattle.solid_edits.specs.declared.new_edges.NewEdge.{NewEdge}
+use Rattle.halfedge.proofs.LinkedRings.{any_ring}
 use Rattle.solid_calls.proofs.Represented.{Represents, represented, represents-sound}
-use Rattle.solid_calls.proofs.Room.{puts-then, puts-wider, records-of, room-after, room-for_one, room-of_length, room-part}
-use Rattle.halfedge.proofs.Ends.{length-ends}
 use Rattle.solid_calls.proofs.Kept.{reached-well}
 use Rattle.solid_edits.proofs.PlacedFins.{placed-fin, placed-live}
-use Rattle.euler_make.proofs.MevSteps.{StrutPut, ring-more, with_strut-puts}
+use Rattle.euler_make.proofs.FirstFins.{first-more}
+use Rattle.euler_make.proofs.MevSteps.{StrutPut, ring-more, strut-put, with_vertex}
 use Rattle.euler_make.proofs.MevReached.{mev-represents}
-use Rattle.euler_make.proofs.MevFound.{strut_items, mev-row, mev-reaches, IsReady}
+use Rattle.euler_make.proofs.MevFound.{strut_edge, strut_items, mev-row, mev-reaches, IsReady}
 
 module _ {old : StoreView} {end : Tag} {at : Triple} {place : PlacedEnd} {tags : TagsView} {out : Building Tag} {s : Strut} (r : IsReady old end at place tags out s) where
   abbrev m0 : EntityMap
@@ -92,155 +96,174 @@ module _ {old : StoreView} {end : Tag} {at : Triple} {place : PlacedEnd} {tags :
   body_hosted : IsHosted old.state.blocks place.body (entity.Body E.shell)
   body_hosted = r.hosted place.body (entity.Body E.shell) (rep.items place.body (Body E.shell) E.body_is)
 
+  loop_there : get m0 place.loop_ ≡ Some (entity.Loop place.face (first_tag E.list) E.lone)
+  loop_there = (rep.items place.loop_ (Loop place.face E.list E.lone) E.loop_is).0
+
   loop_hosted : IsHosted old.state.blocks place.loop_ (entity.Loop place.face (first_tag E.list) E.lone)
-  loop_hosted = r.hosted place.loop_ (entity.Loop place.face (first_tag E.list) E.lone) (rep.items place.loop_ (Loop place.face E.list E.lone) E.loop_is).0
+  loop_hosted = r.hosted place.loop_ (entity.Loop place.face (first_tag E.list) E.lone) loop_there
 
-  pub strut-owned : AllByRecursion (λ t. IsTrue (owns old.state.blocks t)) (s.vertex ∷ s.edge ∷ s.out ∷ s.back ∷ place.body ∷ place.loop_ ∷ [])
-  strut-owned = (owned.0, (owned.1.0, (owned.1.1.0, (owned.1.1.1.0, (body_hosted.owned, (loop_hosted.owned, tt))))))
+  body_apart : NoneOf place.body news
+  body_apart = live-none_of S news place.body _ free E.body_is
 
-  pub strut-apart : AllByRecursion (λ t. (t ≢ place.body) × (t ≢ place.loop_)) news
-  strut-apart =
-      let b = live-none_of S news place.body _ free E.body_is in
-      let l = live-none_of S news place.loop_ _ free E.loop_is in (
-        ((λ h. b.0 (sym h)), (λ h. l.0 (sym h))),
-        (
-          ((λ h. b.1.0 (sym h)), (λ h. l.1.0 (sym h))),
-          (((λ h. b.1.1.0 (sym h)), (λ h. l.1.1.0 (sym h))), (((λ h. b.1.1.1.0 (sym h)), (λ h. l.1.1.1.0 (sym h))), tt)),
-        ),
-      )
+  loop_apart : NoneOf place.loop_ news
+  loop_apart = live-none_of S news place.loop_ _ free E.loop_is
 
-  -- all the tags that are put
+  abbrev edge : NewEdge
+  edge = strut_edge u s.vertex s.edge s.out s.back
+
+  pub edge-other : place.body ≢ s.edge
+  edge-other = body_apart.1.0
+
+  pub fin-other : place.loop_ ≢ s.out
+  fin-other = loop_apart.1.1.0
+
+  pub mate-other : place.loop_ ≢ s.back
+  mate-other = loop_apart.1.1.1.0
+
+  -- ---- the first fin of the loop
+
+  pub loop-is : (v : StoreView) → v ≡ old → IsLoop (get v.state.map place.loop_)
+  loop-is v same = subst (λ (w : StoreView). IsLoop (get w.state.map place.loop_)) (sym same) (subst IsLoop (sym loop_there) tt)
+
+  -- out comes to it, or is less
+  pub least-is : (v : StoreView) (first : Option Tag) (low : Tag) → v ≡ old → first ≡ first_named (get v.state.map place.loop_) → low ≡ option_map_or (λ t. lesser t s.out) first s.out
+      → first_tag (from_least (s.out ∷ s.back ∷ u.fins)) ≡ Some low
+  least-is v first low same first_is low_is =
+      let here : first ≡ first_tag E.list = subst (λ (w : StoreView). first ≡ first_named (get w.state.map place.loop_)) same first_is ∙ ap first_named loop_there in
+      first-more E.list u.fins s.out s.back E.turned (well.written.loops place.loop_ place.face E.list E.lone E.loop_is) ascend.1.1.0.0
+      ∙ ap Some (ap (λ o. option_map_or (λ t. lesser t s.out) o s.out) (sym here) ∙ sym low_is)
+
+  -- ---- the tags that are put
+
   abbrev all : List Tag
   all = s.vertex ∷ s.edge ∷ s.out ∷ s.back ∷ place.loop_ ∷ ends_of u.fins
 
-  news-in : (t : Tag) → Contains news t → Contains all t
-  news-in t k = Contains-append_left news (place.loop_ ∷ ends_of u.fins) t k
+  abbrev edge_tags : List Tag
+  edge_tags = s.edge ∷ s.out ∷ s.back ∷ []
 
-  pair-in : (t : Tag) → Contains (s.out ∷ s.back ∷ ends_of u.fins) t → Contains all t
-  pair-in t k =
-      ⊎_elim {C = Contains all t} (λ (h : s.out ≡ t). subst (Contains all) h (2, omega arith, refl))
-      (λ (j : Contains (s.back ∷ ends_of u.fins) t).
-      ⊎_elim {C = Contains all t} (λ (h : s.back ≡ t). subst (Contains all) h (3, omega arith, refl))
-      (λ (i : Contains (ends_of u.fins) t). Contains-append_right (s.vertex ∷ s.edge ∷ s.out ∷ s.back ∷ place.loop_ ∷ []) (ends_of u.fins) t i)
-      (Contains-cases s.back (ends_of u.fins) t j))
-      (Contains-cases s.out (s.back ∷ ends_of u.fins) t k)
+  edge-in : Within edge_tags all
+  edge-in t k = Contains-append_left news (place.loop_ ∷ ends_of u.fins) t (Contains-later s.vertex edge_tags t k)
+
+  pair-in : Within (s.out ∷ s.back ∷ ends_of u.fins) all
+  pair-in t k = ⊎_elim {C = Contains all t}
+      (λ (j : Contains (s.out ∷ s.back ∷ []) t). edge-in t (Contains-later s.edge (s.out ∷ s.back ∷ []) t j))
+      (λ (j : Contains (ends_of u.fins) t). Contains-append_right (news ++ place.loop_ ∷ []) (ends_of u.fins) t j)
+      (Contains-append_cases (s.out ∷ s.back ∷ []) (ends_of u.fins) t k)
+
+  vertex-in : Contains all s.vertex
+  vertex-in = (0, omega arith, refl)
 
   loop-in : Contains all place.loop_
   loop-in = (4, omega arith, refl)
 
-  one-in : (t : Tag) → Contains (place.loop_ ∷ []) t → Contains all t
-  one-in t k = subst (Contains all) (Contains-only place.loop_ t k) loop-in
-
   room : HasRoomForThese old.recording all
-  room = room-of_length old.recording all (let few = length-ends u.fins in omega (arith, r.may.room))
+  room = subst (HasRoomForThese old.recording) r.puts r.may.room
 
-  pub strut-room : HasRoomForThese old.recording news
-  strut-room = room-part old.recording all news room news-in
+  pub vertex-hosted : (p : Point) → IsHosted old.state.blocks s.vertex (entity.Vertex place.body p)
+  vertex-hosted p = record { owned = owned.0; owner = (body_apart.0, body_hosted.owned) }
 
-  -- ---- the strut is put
+  pub vertex-room : HasRoomFor old.recording s.vertex
+  vertex-room = stage-room_one all old old s.vertex room (stage-none all old) vertex-in
 
-  -- the strut, and no more, was put
-  pub record HasStrut (new : StoreView) : Type 0 where
-    pub state : new.state ≡ record old.state { map = with_strut m0 place s (point_of at) }
-    pub puts : PutsAmong news old new
+  -- ---- the vertex is put
 
-  pub strut-put : (new : StoreView) (p : Point) → p ≡ point_of at → new.state ≡ record old.state { map = with_strut m0 place s p } → PutsAmong news old new → HasStrut new
-  strut-put new p is state puts = record { state = state ∙ ap (λ q. record old.state { map = with_strut m0 place s q }) is; puts = puts }
+  module _ (p : Point) (p_is : p ≡ point_of at) (s0 : StoreView) (state0 : s0.state ≡ record old.state { map = with_vertex m0 u s.vertex p }) (began0 : began s0 ≡ began old)
+      (recorded0 : s0.recording ≡ record old.recording { first = recorded_put old.recording.first s.vertex (get m0 s.vertex) }) where
+    zero : IsStage all old s0
+    zero = stage-put all old old s0 s.vertex (Some (entity.Vertex place.body p)) (stage-none all old) vertex-in state0 began0 recorded0
 
-  module _ (s1 : StoreView) (h : HasStrut s1) where
-    abbrev m1 : EntityMap
-    m1 = s1.state.map
+    pub edge-owned : AllByRecursion (λ t. IsTrue (owns s0.state.blocks t)) (s.edge ∷ s.out ∷ s.back ∷ place.body ∷ place.loop_ ∷ place.loop_ ∷ [])
+    edge-owned = subst (λ (z : Stored). AllByRecursion (λ t. IsTrue (owns z.blocks t)) (s.edge ∷ s.out ∷ s.back ∷ place.body ∷ place.loop_ ∷ place.loop_ ∷ [])) (sym zero.state)
+        (owned.1.0, (owned.1.1.0, (owned.1.1.1.0, (body_hosted.owned, (loop_hosted.owned, (loop_hosted.owned, tt))))))
 
-    put : StrutPut m0 m1 u s.vertex s.edge s.out s.back (point_of at)
-    put = subst (λ m. StrutPut m0 m u s.vertex s.edge s.out s.back (point_of at)) (sym (ap (λ (x : Stored). x.map) h.state)) (with_strut-puts m0 place s (point_of at) once u refl refl refl)
+    pub edge-room : HasRoomForThese s0.recording edge_tags
+    edge-room = stage-room all edge_tags old s0 room zero edge-in
 
-    pub ring-put : (ring_of_any m1 place.first ≡ u.fins) × IfSome place.first (IsInRing m1)
-    ring-put = ring-more m0 m1 place.first r.ring (λ f k. put.others f (live-none_of S news f _ free (placed-fin well E f k).3))
+    -- ---- the edge is put
 
-    pub out-alone : IsRing m1 (s.out ∷ [])
-    out-alone = ring_alone m1 s.out place.loop_ s.back s.edge place.vertex put.at_n
+    module _ (s1 : StoreView) (state1 : s1.state ≡ record s0.state { map = with_edge s0.state.map edge }) (puts1 : PutsAmong edge_tags s0 s1) where
+      abbrev m1 : EntityMap
+      m1 = s1.state.map
 
-    pub back-alone : IsRing m1 (s.back ∷ [])
-    back-alone = ring_alone m1 s.back place.loop_ s.out s.edge s.vertex put.at_m
+      one : IsStage all old s1
+      one = stage-then all edge_tags old s0 s1 zero edge-in (only-put s0.state s1.state _ state1) puts1
 
-    pub pair-apart : NoRepeats (s.out ∷ s.back ∷ ring_of_any m1 place.first)
-    pair-apart =
-        let new = λ (t : Tag) (none : item_at S t ≡ None). none-of u.fins t (placed-live well E t none) in
-        let whole : NoRepeats (s.out ∷ s.back ∷ u.fins) = ((once.1.1.0.0, new s.out free.1.1.0), (new s.back free.1.1.1.0, (any_ring m0 place.first r.ring).once)) in
-        subst (λ ts. NoRepeats (s.out ∷ s.back ∷ ts)) (sym ring-put.0) whole
+      put : StrutPut m0 m1 u s.vertex s.edge s.out s.back (point_of at)
+      put =
+          let made : m1 ≡ with_edge (with_vertex m0 u s.vertex (point_of at)) edge =
+          ap (λ (x : Stored). x.map) state1 ∙ ap (λ (x : Stored). with_edge x.map edge) state0 ∙ ap (λ q. with_edge (with_vertex m0 u s.vertex q) edge) p_is in
+          subst (λ m. StrutPut m0 m u s.vertex s.edge s.out s.back (point_of at)) (sym made) (strut-put m0 u s.vertex s.edge s.out s.back (point_of at) once)
 
-    room1 : HasRoomForThese s1.recording all
-    room1 = room-after all news old s1 room h.puts news-in
+      pub pair-fins : IsRing m1 (s.out ∷ []) × IsRing m1 (s.back ∷ [])
+      pair-fins = (put.edge.fin_ring, put.edge.mate_ring)
 
-    pub pair-room : HasRoomForThese s1.recording (s.out ∷ s.back ∷ ends_of (ring_of_any m1 place.first))
-    pair-room = subst (λ ts. HasRoomForThese s1.recording (s.out ∷ s.back ∷ ends_of ts)) (sym ring-put.0) (room-part s1.recording all _ room1 pair-in)
+      pub ring-put : (ring_of_any m1 place.first ≡ u.fins) × IfSome place.first (IsInRing m1)
+      ring-put = ring-more m0 m1 place.first r.ring (λ f k. put.others f (live-none_of S news f _ free (placed-fin well E f k).3))
 
-    -- ---- its fins are put into the ring
+      pub pair-apart : NoRepeats (s.out ∷ s.back ∷ ring_of_any m1 place.first)
+      pair-apart =
+          let new = λ (t : Tag) (none : item_at S t ≡ None). none-of u.fins t (placed-live well E t none) in
+          let whole : NoRepeats (s.out ∷ s.back ∷ u.fins) = ((once.1.1.0.0, new s.out free.1.1.0), (new s.back free.1.1.1.0, (any_ring m0 place.first r.ring).once)) in
+          subst (λ ts. NoRepeats (s.out ∷ s.back ∷ ts)) (sym ring-put.0) whole
 
-    module _ (s2 : StoreView)
-        (links2 : Relinks m1 ([] ∷ ring_of_any m1 place.first ∷ (s.out ∷ []) ∷ (s.back ∷ []) ∷ []) s2.state.map ((s.out ∷ s.back ∷ ring_of_any m1 place.first) ∷ []))
-        (state2 : s2.state ≡ record s1.state { map = s2.state.map }) (puts2 : PutsAmong (s.out ∷ s.back ∷ ends_of (ring_of_any m1 place.first)) s1 s2) where
-      abbrev m2 : EntityMap
-      m2 = s2.state.map
+      pub pair-room : HasRoomForThese s1.recording (s.out ∷ s.back ∷ ends_of (ring_of_any m1 place.first))
+      pair-room = subst (λ ts. HasRoomForThese s1.recording (s.out ∷ s.back ∷ ends_of ts)) (sym ring-put.0) (stage-room all _ old s1 room one pair-in)
 
-      relinks : Relinks m1 ([] ∷ u.fins ∷ (s.out ∷ []) ∷ (s.back ∷ []) ∷ []) m2 ((s.out ∷ s.back ∷ u.fins) ∷ [])
-      relinks = subst (λ ts. Relinks m1 ([] ∷ ts ∷ (s.out ∷ []) ∷ (s.back ∷ []) ∷ []) m2 ((s.out ∷ s.back ∷ ts) ∷ [])) ring-put.0 links2
+      -- ---- its fins are put into the ring
 
-      blocks2 : s2.state.blocks ≡ old.state.blocks
-      blocks2 = same-blocks s1.state s2.state _ state2 ∙ same-blocks old.state s1.state _ h.state
+      module _ (s2 : StoreView)
+          (links2 : Relinks m1 ([] ∷ ring_of_any m1 place.first ∷ (s.out ∷ []) ∷ (s.back ∷ []) ∷ []) s2.state.map ((s.out ∷ s.back ∷ ring_of_any m1 place.first) ∷ []))
+          (state2 : s2.state ≡ record s1.state { map = s2.state.map }) (puts2 : PutsAmong (s.out ∷ s.back ∷ ends_of (ring_of_any m1 place.first)) s1 s2) where
+        abbrev m2 : EntityMap
+        m2 = s2.state.map
 
-      pub loop-ring : IsInRing m2 s.out
-      loop-ring = in-ring_from m2 s.out (s.back ∷ u.fins) relinks.rings.0
+        relinks : Relinks m1 ([] ∷ u.fins ∷ (s.out ∷ []) ∷ (s.back ∷ []) ∷ []) m2 ((s.out ∷ s.back ∷ u.fins) ∷ [])
+        relinks = subst (λ ts. Relinks m1 ([] ∷ ts ∷ (s.out ∷ []) ∷ (s.back ∷ []) ∷ []) m2 ((s.out ∷ s.back ∷ ts) ∷ [])) ring-put.0 links2
 
-      pub loop-owned : IsTrue (owns s2.state.blocks place.loop_)
-      loop-owned = subst (λ bs. IsTrue (owns bs place.loop_)) (sym blocks2) loop_hosted.owned
+        two : IsStage all old s2
+        two = stage-then all _ old s1 s2 one pair-in state2 (subst (λ ts. PutsAmong (s.out ∷ s.back ∷ ends_of ts) s1 s2) ring-put.0 puts2)
 
-      pub face-owned : IsTrue (owns s2.state.blocks place.face)
-      face-owned = subst (λ bs. IsTrue (owns bs place.face)) (sym blocks2) loop_hosted.owner.1
+        pub loop-owned : IsTrue (owns s2.state.blocks place.loop_)
+        loop-owned = stage-owns all old s2 place.loop_ two loop_hosted.owned
 
-      pub face-other : place.face ≢ place.loop_
-      face-other = loop_hosted.owner.0
+        pub loop-hosted : (low : Tag) → IsHosted s2.state.blocks place.loop_ (entity.Loop place.face (Some low) None)
+        loop-hosted low = subst (λ (x : Stored). IsHosted x.blocks place.loop_ (entity.Loop place.face (Some low) None)) (sym two.state) (record { owned = loop_hosted.owned; owner = loop_hosted.owner })
 
-      puts12 : PutsAmong all old s2
-      puts12 =
-          let pair = subst (λ ts. PutsAmong (s.out ∷ s.back ∷ ends_of ts) s1 s2) ring-put.0 puts2 in
-          puts-then all old s1 s2 (puts-wider news all old s1 h.puts news-in) (puts-wider _ all s1 s2 pair pair-in)
+        pub loop-room : HasRoomFor s2.recording place.loop_
+        loop-room = stage-room_one all old s2 place.loop_ room two loop-in
 
-      pub loop-room : HasRoomFor s2.recording place.loop_
-      loop-room = room-for_one s2.recording all place.loop_ (room-after all all old s2 room puts12 (λ t k. k)) loop-in
+        -- ---- the loop names the least fin of its ring
 
-      -- ---- the loop names the least fin of its ring
+        module _ (low : Tag) (low_is : first_tag (from_least (s.out ∷ s.back ∷ u.fins)) ≡ Some low) (s3 : StoreView)
+            (state3 : s3.state ≡ record s2.state { map = with_entity m2 place.loop_ (Some (entity.Loop place.face (Some low) None)) }) (began3 : began s3 ≡ began s2)
+            (recorded3 : s3.recording ≡ record s2.recording { first = recorded_put s2.recording.first place.loop_ (get m2 place.loop_) }) where
+          abbrev R : Shape
+          R = S with strut_items u at s.vertex s.edge s.out s.back
 
-      module _ (s3 : StoreView)
-          (state3 : s3.state ≡ record s2.state { map = with_entity m2 place.loop_ (Some (entity.Loop place.face (first_tag (from_least (ring_at m2 s.out))) None)) })
-          (puts3 : PutsAmong (place.loop_ ∷ []) s2 s3) where
-        abbrev R : Shape
-        R = S with strut_items u at s.vertex s.edge s.out s.back
+          abbrev row : Row
+          row = mev S end at
 
-        abbrev row : Row
-        row = mev S end at
+          reaches : reached S (left tags) row ≡ R
+          reaches = mev-reaches S end at u (left tags) s.vertex s.edge s.out s.back r.rest r.found r.may.goes r.taken
 
-        reaches : reached S (left tags) row ≡ R
-        reaches = mev-reaches S end at u (left tags) s.vertex s.edge s.out s.back r.rest r.found r.may.goes r.taken
+          well_now : IsWell R
+          well_now =
+              let keeps = mev-keeps S (left tags) end at well r.has.ascend (ByRecursion-weaker _ _ (λ t none. free_item m0 r.may.sound t none) (left tags) r.has.free) in
+              let cost : cost_of row ≡ 4 = ap cost_of (mev-row S end at u r.found r.may.goes) in
+              subst IsWell reaches (reached-well S (left tags) row well (omega (arith, cost, r.has.enough)) keeps)
 
-        well_now : IsWell R
-        well_now =
-            let keeps = mev-keeps S (left tags) end at well r.has.ascend (ByRecursion-weaker _ _ (λ t none. free_item m0 r.may.sound t none) (left tags) r.has.free) in
-            let cost : cost_of row ≡ 4 = ap cost_of (mev-row S end at u r.found r.may.goes) in
-            subst IsWell reaches (reached-well S (left tags) row well (omega (arith, cost, r.has.enough)) keeps)
+          map_is : s3.state.map ≡ links R
+          map_is =
+              let now : s3.state.map ≡ with_entity m2 place.loop_ (Some (entity.Loop place.face (first_tag (from_least (s.out ∷ s.back ∷ u.fins))) None)) =
+              ap (λ (x : Stored). x.map) state3 ∙ ap (λ o. with_entity m2 place.loop_ (Some (entity.Loop place.face o None))) (sym low_is) in
+              now ∙ represented R _ well_now (mev-represents S well m0 m1 m2 rep u E s.vertex s.edge s.out s.back (point_of at) free ascend put relinks)
 
-        map_is : s3.state.map ≡ links R
-        map_is =
-            let written = ring_at-is m2 s.out (s.back ∷ u.fins) relinks.rings.0 in
-            let now : s3.state.map ≡ with_entity m2 place.loop_ (Some (entity.Loop place.face (first_tag (from_least (s.out ∷ s.back ∷ u.fins))) None)) =
-            ap (λ (x : Stored). x.map) state3 ∙ ap (λ ts. with_entity m2 place.loop_ (Some (entity.Loop place.face (first_tag (from_least ts)) None))) written in
-            now ∙ represented R _ well_now (mev-represents S well m0 m1 m2 rep u E s.vertex s.edge s.out s.back (point_of at) free ascend put relinks)
+          three : IsStage all old s3
+          three = stage-put all old s2 s3 place.loop_ (Some (entity.Loop place.face (Some low) None)) two loop-in state3 began3 recorded3
 
-        pub mev-done : HasDone old (call.Mev end at) (left tags) s3
-        mev-done = record {
-          state =
-              only-then old.state s2.state s3.state (only-then old.state s1.state s2.state (only-put old.state s1.state _ h.state) state2) (only-put s2.state s3.state _ state3)
-              ∙ ap (λ m. record old.state { map = m }) (map_is ∙ ap links (sym reaches));
-          sound = subst IsSound (sym map_is) (sound-links R well_now);
-          records = records-of all 7 old s3 (puts-then all old s2 s3 puts12 (puts-wider _ all s2 s3 puts3 one-in)) (let few = length-ends u.fins in omega (arith, few));
-        }
+          pub mev-done : HasDone old (call.Mev end at) (left tags) s3
+          mev-done = record {
+            state = three.state ∙ ap (λ m. record old.state { map = m }) (map_is ∙ ap links (sym reaches));
+            sound = subst IsSound (sym map_is) (sound-links R well_now);
+            puts = subst (λ ts. PutsAmong ts old s3) (sym r.puts) three.puts;
+          }

@@ -1,5 +1,5 @@
 -- mfkrh: what each step asks for, and that the last one does what the row says.
-use Rattle.std.proofs.Common.{◌≡◌, ◌≢◌, List, [], ◌∷◌, Some, None, sym, ap, subst, ◌∙◌, arith}
+use Rattle.std.proofs.Common.{◌≡◌, ◌≢◌, List, [], ◌∷◌, Some, None, sym, ap, subst, ◌∙◌}
 use Rattle.std.specs.Prelude.{pos, Contains, IsTrue, option_map}
 use Rattle.std.specs.FinMap.{get}
 use Rattle.pk_base.specs.Building.{Building}
@@ -19,8 +19,8 @@ use Rattle.solid_sound.proofs.rows.Asked.{free_item}
 use Rattle.solid_sound.proofs.rows.KeptMfkrh.{mfkrh-keeps}
 use Rattle.solid_sound.proofs.rows.RowKeeps.{well-shape}
 use Rattle.solid_calls.specs.Pairs.{HasDone}
-use Rattle.solid_calls.specs.Room.{HasRoomForThese, PutsAmong}
-use Rattle.solid_calls.proofs.Room.{records-of, room-for_one, room-of_length}
+use Rattle.entity_store.specs.Room.{HasRoomForThese, PutsAmong}
+use Rattle.entity_store.proofs.Room.{room-for_one}
 use Rattle.solid_calls.proofs.Sizes.{q-fits}
 use Rattle.solid_places.specs.declared.loops.PlacedLoop.{PlacedLoop as FoundLoop}
 use Rattle.solid_edits.specs.Faces.{IsLoop, IsShell, of_face, with_more}
@@ -46,7 +46,7 @@ module _ {s0 : StoreView} {l : Tag} {p : FoundLoop} {tags : TagsView} {out : Bui
   all = new ∷ l ∷ shell ∷ []
 
   room : HasRoomForThese s0.recording all
-  room = room-of_length s0.recording all r.may.room
+  room = subst (HasRoomForThese s0.recording) r.puts r.may.room
 
   has_new : Contains all new
   has_new = Contains-first new (l ∷ shell ∷ [])
@@ -80,6 +80,9 @@ module _ {s0 : StoreView} {l : Tag} {p : FoundLoop} {tags : TagsView} {out : Bui
 
     pub loop-owned : IsTrue (owns s1.state.blocks l)
     loop-owned = stage-owns all s0 s1 l one (r.known.hosted l _ (ring-has m r.may.sound l shell new r.goes free)).owned
+
+    pub loop-room : HasRoomFor s1.recording l
+    loop-room = stage-room_one all s0 s1 l room one has_loop
 
     pub loop-other : new ≢ l
     loop-other e = l_new m r.may.sound l shell new r.goes free (sym e)
@@ -118,4 +121,4 @@ module _ {s0 : StoreView} {l : Tag} {p : FoundLoop} {tags : TagsView} {out : Bui
             done s0 s3 _ (left tags) _ r.goes.row_is r.may.sound r.has.enough
             (mfkrh-keeps S (left tags) l (well-shape m r.may.sound) (λ some. subst (λ t. item_at S t ≡ None) first free))
             (counted ∙ ap (λ (n : EntityMap). record s0.state { map = n }) (made ∙ ap (λ t. links (with_face S t l r.goes.fins r.goes.vertex shell r.goes.body r.goes.q)) first))
-            (records-of all 3 s0 s3 three.puts (omega arith))
+            (subst (λ ts. PutsAmong ts s0 s3) (sym r.puts) three.puts)

@@ -1,5 +1,5 @@
 -- mfkrh: what it finds before it changes anything, and its row.
-use Rattle.std.proofs.Common.{◌≡◌, List, [], ◌∷◌, Option, Some, Ok, sym, ap, subst, ◌∙◌}
+use Rattle.std.proofs.Common.{◌≡◌, List, [], ◌∷◌, ◌++◌, take, Option, Some, Ok, sym, ap, subst, ◌∙◌}
 use Rattle.std.specs.Prelude.{ℤ, pos, ◌+ℤ◌, IsOk}
 use Rattle.pk_base.specs.Entity.{same_tag}
 use Rattle.pk_base.specs.declared.tag.Tag.{Tag}
@@ -7,10 +7,10 @@ use Rattle.pk_base.specs.declared.refusal.Refusal.TheVariants.{IsOuter}
 use Rattle.entity_store.specs.Store.{StoreView}
 use Rattle.solid_model.specs.Items.{Shape, item_at, ◌with◌}
 use Rattle.solid_model.specs.Items.Item.{Face, Loop, Shell}
-use Rattle.solid_model.specs.Rows.{refuse_where, makes_one}
+use Rattle.solid_model.specs.Room.{changed_by_mfkrh, if_found, tags_put}
+use Rattle.solid_model.specs.Rows.{cost_of, refuse_where, makes_one}
 use Rattle.solid_model.specs.Places.{PlacedLoop, loop_at, q_at}
 use Rattle.solid_model.specs.Shapes.{shape_of}
-use Rattle.solid_model.specs.Sound.{IsSound}
 use Rattle.solid_model.specs.Mfkrh.{mfkrh}
 use Rattle.solid_sound.proofs.rows.RowKeeps.{IsWell, well-shape}
 use Rattle.solid_sound.proofs.rows.KeptRings.{asked_loop, face_of_class, face_in, in_face-is}
@@ -19,7 +19,8 @@ use Rattle.pk_base.specs.Building.{Building}
 use Rattle.pk_base.specs.declared.call.Call.TheVariants.{Mfkrh}
 use Rattle.pk_model.specs.Tags.{AreInRange, Ascends}
 use Rattle.entity_store.specs.NextTags.{TagsView, left}
-use Rattle.solid_calls.specs.Pairs.{HasTags, MayDo}
+use Rattle.solid_calls.specs.Pairs.{HasTags, MayDo, row_on}
+use Rattle.solid_calls.proofs.RowKinds.{cost-making, mfkrh-makes}
 use Rattle.solid_places.specs.declared.loops.PlacedLoop.{PlacedLoop as FoundLoop}
 use Rattle.solid_edits.proofs.Hosted.{AreHosted, KnowsBlocks, blocks-seen}
 
@@ -67,31 +68,36 @@ makes S well l p at h =
     } in
     subst (MakesFace S l) (sym shell_is ∙ ap (λ (r : PlacedLoop). r.shell) same) made
 
--- what is found of the ring in a store that is lent
-pub makes-seen : (v s : StoreView) → v ≡ s → IsSound s.state.map → (l : Tag) (p : PlacedLoop) → loop_at (shape_of v.state.map) l ≡ Ok p → IsOk (mfkrh (shape_of s.state.map) l) → MakesFace (shape_of s.state.map) l p.shell
-makes-seen v s e sound l p at goes =
-    makes (shape_of s.state.map) (well-shape s.state.map sound) l p (subst (λ (w : StoreView). loop_at (shape_of w.state.map) l ≡ Ok p) e at) goes
-
 -- ---- what is found
+
+-- it takes one tag
+pub mfkrh-cost : (S : Shape) (l : Tag) → IsOk (mfkrh S l) → cost_of (mfkrh S l) ≡ 1
+mfkrh-cost S l goes = cost-making 1 (mfkrh S l) (mfkrh-makes S l) goes
 
 -- the call goes, the ring was found, and the tag of the face was taken
 pub record IsReady (old : StoreView) (l : Tag) (p : FoundLoop) (tags : TagsView) (out : Building Tag) (new : Tag) : Type 0 where
-  pub may : MayDo old (Mfkrh l)
+  pub may : MayDo old (Mfkrh l) (left tags)
   pub has : HasTags old 1 tags out
   pub known : KnowsBlocks old.state
   pub goes : MakesFace (shape_of old.state.map) l p.shell
   pub rest : List Tag
   pub taken : left tags ≡ new ∷ rest
+  pub puts : tags_put (shape_of old.state.map) (Mfkrh l) (left tags) ≡ new ∷ l ∷ p.shell ∷ []
 
 -- what views of the store say is said of the store
-pub ready-viewed : {old v w : StoreView} {l : Tag} {tags : TagsView} {out : Building Tag} (p : FoundLoop) (new : Tag) (rest : List Tag) → MayDo old (Mfkrh l) → HasTags old 1 tags out
+pub ready-viewed : {old v w : StoreView} {l : Tag} {tags : TagsView} {out : Building Tag} (p : FoundLoop) (new : Tag) (rest : List Tag) → MayDo old (Mfkrh l) (left tags) → HasTags old (cost_of (row_on old.state.map (Mfkrh l))) tags out
     → v ≡ old → w ≡ old → Ascends v.state.blocks → AreInRange v.state.blocks → AreHosted v.state
     → loop_at (shape_of w.state.map) l ≡ Ok (record { face = p.face; outer = p.outer; shell = p.shell; body = p.body }) → left tags ≡ new ∷ rest → IsReady old l p tags out new
-ready-viewed {old = old} {v = v} {w = w} {l = l} p new rest may has is_v is_w ascend range hosted found taken = record {
-  may = may;
-  has = has;
-  known = blocks-seen v old is_v ascend range hosted;
-  goes = makes-seen w old is_w may.sound l (record { face = p.face; outer = p.outer; shell = p.shell; body = p.body }) found may.goes;
-  rest = rest;
-  taken = taken;
-}
+ready-viewed {old = old} {v = v} {w = w} {l = l} {tags = tags} {out = out} p new rest may has is_v is_w ascend range hosted found taken =
+    let place : PlacedLoop = record { face = p.face; outer = p.outer; shell = p.shell; body = p.body } in
+    let cost = mfkrh-cost (shape_of old.state.map) l may.goes in
+    let here = subst (λ (z : StoreView). loop_at (shape_of z.state.map) l ≡ Ok place) is_w found in
+    record {
+      may = may;
+      has = subst (λ n. HasTags old n tags out) cost has;
+      known = blocks-seen v old is_v ascend range hosted;
+      goes = makes (shape_of old.state.map) (well-shape old.state.map may.sound) l place here may.goes;
+      rest = rest;
+      taken = taken;
+      puts = λ i. take (cost i) (taken i) ++ if_found (changed_by_mfkrh l) (here i);
+    }

@@ -12,7 +12,7 @@ use Rattle.solid_model.specs.Links.{links}
 use Rattle.solid_model.specs.Shapes.{shape_of}
 use Rattle.solid_model.specs.Sound.{IsSound}
 use Rattle.solid_sound.proofs.shapes.Lookups.{put-same, put-other}
-use Rattle.solid_sound.proofs.shapes.Found.{same_or_other}
+use Rattle.pk_base.proofs.Same.{same_or_other}
 use Rattle.solid_sound.proofs.rows.RowKeeps.{IsWell, Keeps, well-shape}
 use Rattle.solid_sound.proofs.rows.KeptRings.{apart, free_apart}
 use Rattle.solid_sound.proofs.rows.KeptMfkrh.{mfkrh-keeps}

@@ -1,11 +1,12 @@
 -- mvfs: the map that is reached, and that it is that of the shape of its row.
-use Rattle.std.proofs.Common.{◌≡◌, ◌≢◌, ⊎_elim, List, [], ◌∷◌, Some, None, refl, sym, ap, subst, ◌∙◌, arith}
+use Rattle.std.proofs.Common.{◌≡◌, ◌≢◌, ⊎_elim, List, [], ◌∷◌, Some, None, ◌++◌, take, refl, sym, ap, subst, ◌∙◌, arith}
 use Rattle.std.specs.Prelude.{pos, IsOk, Contains}
 use Rattle.std.specs.List.{AllByRecursion}
 use Rattle.std.specs.FinMap.{get}
 use Rattle.pk_base.specs.declared.tag.Tag.{Tag}
 use Rattle.pk_base.specs.declared.entity.Entity.TheVariants as entity
 use Rattle.pk_base.specs.declared.entity.Triple.{Triple}
+use Rattle.pk_base.specs.declared.call.Call.TheVariants.{Mvfs}
 use Rattle.pk_model.specs.Apart.{NoRepeats}
 use Rattle.pk_model.specs.Maps.{EntityMap, with_entity}
 use Rattle.pk_model.specs.Tags.{TagsAscend, tag_at}
@@ -13,19 +14,21 @@ use Rattle.list_facts.proofs.Each.{ByRecursion-weaker, ByRecursion-left}
 use Rattle.solid_model.specs.Items.{Item, Shape, item_at, ◌with◌}
 use Rattle.solid_model.specs.Items.Item.{Body, Shell, Face, Loop, Vertex}
 use Rattle.solid_model.specs.Ranges.{is_coordinate, numbers_of, point_of, refuse_outside}
-use Rattle.solid_model.specs.Rows.{makes_five}
+use Rattle.solid_model.specs.Room.{tags_put}
+use Rattle.solid_model.specs.Rows.{cost_of, makes_five}
 use Rattle.solid_model.specs.Links.{links}
 use Rattle.solid_model.specs.Shapes.{shape_of}
 use Rattle.solid_model.specs.Sound.{IsSound}
 use Rattle.solid_model.specs.Mvfs.{mvfs}
-use Rattle.solid_sound.proofs.lists.Neighbours.{NoneOf}
+use Rattle.pk_model.proofs.TagLists.{NoneOf}
 use Rattle.solid_sound.proofs.rows.Asked.{free_item}
 use Rattle.solid_sound.proofs.shapes.Lookups.{Items, with-written, with-other}
-use Rattle.solid_sound.proofs.shapes.Found.{same_or_other}
+use Rattle.pk_base.proofs.Same.{same_or_other}
 use Rattle.solid_sound.proofs.rows.RowKeeps.{IsWell, Keeps, well-shape}
 use Rattle.solid_sound.proofs.rows.KeptMvfs.{mvfs-keeps}
-use Rattle.solid_calls.specs.LinkedRings.{IsRing}
-use Rattle.solid_edits.specs.BareParts.{tags_of_parts, with_bare_body}
+use Rattle.halfedge.specs.LinkedRings.{IsRing}
+use Rattle.solid_calls.proofs.RowKinds.{cost-making, mvfs-makes}
+use Rattle.solid_edits.specs.BareParts.{IsMadeOf, tags_of_parts, with_bare_body}
 use Rattle.solid_edits.specs.declared.bare_parts.BareParts.{BareParts}
 use Rattle.solid_edits.proofs.Going.{goes-past}
 use Rattle.solid_calls.proofs.Represented.{Represents, represented, represents-sound}
@@ -45,6 +48,16 @@ with_body S at tags = S with bare_items at (tag_at tags 0) (tag_at tags 1) (tag_
 
 pub mvfs-row : (S : Shape) (at : Triple) → IsOk (mvfs S at) → mvfs S at ≡ makes_five (λ body shell face l vertex. S with bare_items at body shell face l vertex)
 mvfs-row S at h = (goes-past (refuse_outside is_coordinate (numbers_of at)) _ h).same
+
+-- ---- the tags that it takes and puts
+
+pub mvfs-cost : (S : Shape) (at : Triple) → IsOk (mvfs S at) → cost_of (mvfs S at) ≡ 5
+mvfs-cost S at goes = cost-making 5 (mvfs S at) (mvfs-makes S at) goes
+
+pub mvfs-tags : (S : Shape) (at : Triple) (p : BareParts) (tags rest : List Tag) → IsOk (mvfs S at) → IsMadeOf tags p rest → tags_put S (Mvfs at) tags ≡ tags_of_parts p
+mvfs-tags S at p tags rest goes made = λ i. take (mvfs-cost S at goes i) (made i) ++ []
+
+-- ---- the map that is reached
 
 module _ (m : EntityMap) (sound : IsSound m) (at : Triple) (p : BareParts) (rest : List Tag) (goes : IsOk (mvfs (shape_of m) at))
     (ascend : TagsAscend (p.body ∷ p.shell ∷ p.face ∷ p.loop_ ∷ p.vertex ∷ rest))

@@ -1,3 +1,2 @@
 -- In reading order.
-pub mod Struts
-pub mod JoinedLoops
+pub mod FirstFins

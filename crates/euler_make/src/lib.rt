@@ -8,6 +8,7 @@ pub use mev::{mev_do, mev_need};
 pub use mfkrh::{mfkrh_do, mfkrh_need};
 pub use mvfs::{mvfs_do, mvfs_need};
 
+mod beside;
 mod mef;
 mod mekr;
 mod mev;

@@ -1,21 +1,17 @@
 //! The operator mef.
-ghost use Rattle.std.specs.Prelude.{◌≡◌, ◌≢◌, ◌≤◌, [], ◌∷◌, IsTrue, Some, length};
-ghost use Rattle.std.specs.List.{AllByRecursion};
+ghost use Rattle.std.specs.Prelude.{◌≡◌, ◌≤◌, ◌∷◌, length};
 ghost use Rattle.pk_base.specs.declared.call.Call.TheVariants.{Mef};
-ghost use Rattle.pk_base.specs.declared.entity.Entity.TheVariants as entity;
-ghost use Rattle.pk_model.specs.Maps.{with_entity};
-ghost use Rattle.pk_model.specs.Tags.{owns};
 ghost use Rattle.entity_store.specs.NextTags.{left};
+ghost use Rattle.solid_model.specs.Rows.{cost_of};
 ghost use Rattle.solid_model.specs.Sound.{IsSound};
-ghost use Rattle.solid_calls.specs.Pairs.{HasDone, HasTags, MayDo, NeedsAsRow, Takes};
-ghost use Rattle.solid_calls.specs.Room.{HasRoomForThese, PutsAmong};
+ghost use Rattle.solid_calls.specs.Pairs.{HasDone, HasTags, MayDo, NeedsAsRow, Takes, row_on};
 
 use entity_store::{Need, Recorder, Steps, Store, Tags};
 use halfedge::{relabel, ring_len, split_ring};
 use pk_base::{Entity, Refusal, Tag, TagListBuilder};
 use solid_calls::take_tag;
-use solid_edits::put_loop;
-use solid_places::{PlacedFin, fin_at};
+use solid_edits::{NewEdge, NewFin, put_edge, put_loop};
+use solid_places::fin_at;
 use std::sync::ledger::Ledger;
 
 /// How many entities the call makes.
@@ -85,10 +81,12 @@ pub fn mef_do<L: Ledger>(
     out: &mut TagListBuilder,
     steps: &mut Steps<L>,
 )
-    requires may { MayDo rec.old.store.now (Mef from to) }
-    requires tags { HasTags rec.old.store.now 5 tags.old out.old }
+    requires may { MayDo rec.old.store.now (Mef from to) (left tags.old) }
+    requires tags { HasTags rec.old.store.now
+        (cost_of (row_on rec.old.store.now.state.map (Mef from to))) tags.old out.old }
     ensures done { HasDone rec.old.store.now (Mef from to) (left tags.old) rec.new.store.now }
-    ensures takes { Takes 5 tags.old out.old tags.new out.new }
+    ensures takes { Takes (cost_of (row_on rec.old.store.now.state.map (Mef from to)))
+        tags.old out.old tags.new out.new }
     ensures same_store { rec.new.store.ghost_name ≡ rec.old.store.ghost_name }
 {
     let store = rec.view();
@@ -101,7 +99,27 @@ pub fn mef_do<L: Ledger>(
         unreachable!()
     };
     let parts = take_parts(tags, out);
-    put_parts(rec, &parts, &u, v.vertex, steps);
+    let made = Entity::Face {
+        shell: u.shell,
+        outer: parts.loop_,
+    };
+    rec.put(parts.face, Some(made), steps);
+    // x was taken first, and so has the lesser tag.
+    let edge = NewEdge {
+        tag: parts.edge,
+        body: u.body,
+        fin: NewFin {
+            tag: parts.x,
+            loop_: parts.loop_,
+            vertex: v.vertex,
+        },
+        mate: NewFin {
+            tag: parts.y,
+            loop_: u.loop_,
+            vertex: u.vertex,
+        },
+    };
+    put_edge(rec, &edge, steps);
     split_ring(rec, from, to, parts.x, parts.y, steps);
     relabel(rec, from, parts.loop_, steps);
     put_loop(rec, parts.loop_, parts.face, from, steps);
@@ -128,75 +146,4 @@ fn take_parts(tags: &mut Tags<'_>, out: &mut TagListBuilder) -> MefParts
         x,
         y,
     }
-}
-
-/// Puts the new face, the edge, and its fins, each a ring alone, beside the fin `u`. x starts at
-/// `end`.
-fn put_parts<L: Ledger>(
-    rec: &mut Recorder<'_>,
-    parts: &MefParts,
-    u: &PlacedFin,
-    end: Tag,
-    steps: &mut Steps<L>,
-)
-    requires owned { AllByRecursion (λ t. IsTrue (owns rec.old.store.now.state.blocks t))
-        (parts.now.face ∷ parts.now.loop_ ∷ parts.now.edge ∷ parts.now.x ∷ parts.now.y ∷ []) }
-    requires known { AllByRecursion (λ t. IsTrue (owns rec.old.store.now.state.blocks t))
-        (u.now.shell ∷ u.now.body ∷ u.now.loop_ ∷ []) }
-    requires face { u.now.shell ≢ parts.now.face }
-    requires edge { u.now.body ≢ parts.now.edge }
-    requires x { parts.now.loop_ ≢ parts.now.x }
-    requires y { u.now.loop_ ≢ parts.now.y }
-    requires room { HasRoomForThese rec.old.store.now.recording
-        (parts.now.face ∷ parts.now.edge ∷ parts.now.x ∷ parts.now.y ∷ []) }
-    ensures state { let p = parts.now in
-        let face = entity.Face u.now.shell p.loop_ in
-        let edge = entity.Edge u.now.body p.x in
-        let x = entity.Fin p.loop_ p.x p.x p.y p.edge end in
-        let y = entity.Fin u.now.loop_ p.y p.y p.x p.edge u.now.vertex in
-        let faced = with_entity rec.old.store.now.state.map p.face (Some face) in
-        let edged = with_entity faced p.edge (Some edge) in
-        rec.new.store.now.state ≡ record rec.old.store.now.state
-        { map = with_entity (with_entity edged p.x (Some x)) p.y (Some y) } }
-    ensures puts { PutsAmong
-        (parts.now.face ∷ parts.now.edge ∷ parts.now.x ∷ parts.now.y ∷ [])
-        rec.old.store.now rec.new.store.now }
-    ensures same_store { rec.new.store.ghost_name ≡ rec.old.store.ghost_name }
-{
-    let MefParts {
-        face,
-        loop_,
-        edge,
-        x,
-        y,
-    } = *parts;
-    let made = Entity::Face {
-        shell: u.shell,
-        outer: loop_,
-    };
-    rec.put(face, Some(made), steps);
-    // The lesser of the two is x, which was taken first.
-    let between = Entity::Edge {
-        body: u.body,
-        fin: x,
-    };
-    rec.put(edge, Some(between), steps);
-    let back = Entity::Fin {
-        loop_,
-        next: x,
-        prev: x,
-        mate: y,
-        edge,
-        vertex: end,
-    };
-    rec.put(x, Some(back), steps);
-    let out = Entity::Fin {
-        loop_: u.loop_,
-        next: y,
-        prev: y,
-        mate: x,
-        edge,
-        vertex: u.vertex,
-    };
-    rec.put(y, Some(out), steps);
 }

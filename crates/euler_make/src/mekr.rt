@@ -1,22 +1,20 @@
 //! The operator mekr.
-ghost use Rattle.std.specs.Prelude.{◌≡◌, ◌≢◌, ◌≤◌, ◌∷◌, [], IfSome, IsTrue, length};
-ghost use Rattle.std.specs.List.{AllByRecursion};
+ghost use Rattle.std.specs.Prelude.{◌≡◌, ◌≤◌, ◌∷◌, IfSome, length};
 ghost use Rattle.pk_base.specs.declared.call.Call.TheVariants.{Mekr};
-ghost use Rattle.pk_model.specs.Tags.{owns};
 ghost use Rattle.entity_store.specs.NextTags.{left};
+ghost use Rattle.solid_model.specs.Rows.{cost_of};
 ghost use Rattle.solid_model.specs.Sound.{IsSound};
-ghost use Rattle.solid_calls.specs.LinkedRings.{IsInRing, ring_of_any};
-ghost use Rattle.solid_calls.specs.Pairs.{HasDone, HasTags, MayDo, NeedsAsRow, Takes};
-ghost use Rattle.solid_calls.specs.Room.{HasRoomForThese, PutsAmong};
-ghost use Rattle.euler_make.specs.JoinedLoops.{with_edge};
+ghost use Rattle.halfedge.specs.LinkedRings.{IsInRing, ring_of_any};
+ghost use Rattle.solid_calls.specs.Pairs.{HasDone, HasTags, MayDo, NeedsAsRow, Takes, row_on};
 
+use crate::beside::number_beside;
 use attributes::count_attributes;
 use entity_store::{Need, Recorder, Steps, Store, Tags};
 use halfedge::{insert_pair, least_fin, ring_len};
 use pk_base::{Entity, Refusal, Tag, TagListBuilder};
 use solid_calls::take_tag;
-use solid_edits::{give_ring, kill};
-use solid_places::{End, end_at};
+use solid_edits::{NewEdge, NewFin, give_ring, kill, put_edge};
+use solid_places::end_at;
 use std::sync::ledger::Ledger;
 
 /// What `mekr_do` needs, or why it is refused. It takes no memory.
@@ -45,12 +43,12 @@ pub fn mekr_need<L: Ledger>(
     if u.vertex == v.vertex {
         return Err(Refusal::SameVertex(u.vertex));
     }
-    let kept = len_of_any(store, u.first, steps);
+    let beside = number_beside(u.first);
     let joined = len_of_any(store, v.first, steps);
     let dead = count_attributes(store, v.loop_, steps);
     Ok(Need {
         tags: 3,
-        changes: 5 + kept + joined + dead,
+        changes: 5 + beside + joined + dead,
         list: 3,
     })
 }
@@ -85,10 +83,12 @@ pub fn mekr_do<L: Ledger>(
     out: &mut TagListBuilder,
     steps: &mut Steps<L>,
 )
-    requires may { MayDo rec.old.store.now (Mekr keep ring) }
-    requires tags { HasTags rec.old.store.now 3 tags.old out.old }
+    requires may { MayDo rec.old.store.now (Mekr keep ring) (left tags.old) }
+    requires tags { HasTags rec.old.store.now
+        (cost_of (row_on rec.old.store.now.state.map (Mekr keep ring))) tags.old out.old }
     ensures done { HasDone rec.old.store.now (Mekr keep ring) (left tags.old) rec.new.store.now }
-    ensures takes { Takes 3 tags.old out.old tags.new out.new }
+    ensures takes { Takes (cost_of (row_on rec.old.store.now.state.map (Mekr keep ring)))
+        tags.old out.old tags.new out.new }
     ensures same_store { rec.new.store.ghost_name ≡ rec.old.store.ghost_name }
 {
     // Each live entity stands in an owned block.
@@ -101,7 +101,21 @@ pub fn mekr_do<L: Ledger>(
     };
     let new = take_edge(tags, out);
     give_ring(rec, v.first, u.loop_, steps);
-    put_edge(rec, &new, &u, v.vertex, steps);
+    let edge = NewEdge {
+        tag: new.edge,
+        body: u.body,
+        fin: NewFin {
+            tag: new.fin,
+            loop_: u.loop_,
+            vertex: u.vertex,
+        },
+        mate: NewFin {
+            tag: new.mate,
+            loop_: u.loop_,
+            vertex: v.vertex,
+        },
+    };
+    put_edge(rec, &edge, steps);
     insert_pair(rec, u.first, v.first, new.fin, new.mate, steps);
     let first = least_fin(rec, new.fin, steps);
     let joined = Entity::Loop {
@@ -115,7 +129,7 @@ pub fn mekr_do<L: Ledger>(
 
 /// The tags of an edge and its fins.
 #[derive(Clone, Copy, Drop)]
-struct NewEdge {
+struct EdgeTags {
     edge: Tag,
     fin: Tag,
     mate: Tag,
@@ -133,7 +147,7 @@ fn len_of_any<L: Ledger>(store: &Store, first: Option<Tag>, steps: &mut Steps<L>
 }
 
 /// Takes the next three tags, and lists them.
-fn take_edge(tags: &mut Tags<'_>, out: &mut TagListBuilder) -> NewEdge
+fn take_edge(tags: &mut Tags<'_>, out: &mut TagListBuilder) -> EdgeTags
     requires enough { 3 ≤ length (left tags.old) }
     requires spare { 3 ≤ out.old.spare }
     ensures tags { left tags.old ≡ result.edge ∷ result.fin ∷ result.mate ∷ left tags.new }
@@ -142,58 +156,5 @@ fn take_edge(tags: &mut Tags<'_>, out: &mut TagListBuilder) -> NewEdge
     let edge = take_tag(tags, out);
     let fin = take_tag(tags, out);
     let mate = take_tag(tags, out);
-    NewEdge { edge, fin, mate }
-}
-
-/// Puts the edge and its fins, each a ring alone. The first starts at the end's vertex.
-fn put_edge<L: Ledger>(
-    rec: &mut Recorder<'_>,
-    new: &NewEdge,
-    end: &End,
-    to: Tag,
-    steps: &mut Steps<L>,
-)
-    requires owned { AllByRecursion (λ t. IsTrue (owns rec.old.store.now.state.blocks t))
-        (new.now.edge ∷ new.now.fin ∷ new.now.mate ∷ end.now.body ∷ end.now.loop_ ∷ []) }
-    requires edge { end.now.body ≢ new.now.edge }
-    requires fin { end.now.loop_ ≢ new.now.fin }
-    requires mate { end.now.loop_ ≢ new.now.mate }
-    requires room { HasRoomForThese rec.old.store.now.recording
-        (new.now.edge ∷ new.now.fin ∷ new.now.mate ∷ []) }
-    ensures state { rec.new.store.now.state ≡ record rec.old.store.now.state {
-      map = with_edge rec.old.store.now.state.map new.now.edge new.now.fin new.now.mate
-          end.now.body end.now.loop_ end.now.vertex to;
-    } }
-    ensures puts { PutsAmong (new.now.edge ∷ new.now.fin ∷ new.now.mate ∷ [])
-        rec.old.store.now rec.new.store.now }
-    ensures same_store { rec.new.store.ghost_name ≡ rec.old.store.ghost_name }
-{
-    let NewEdge { edge, fin, mate } = *new;
-    let loop_ = end.loop_;
-    rec.put(
-        edge,
-        Some(Entity::Edge {
-            body: end.body,
-            fin,
-        }),
-        steps,
-    );
-    let out = Entity::Fin {
-        loop_,
-        next: fin,
-        prev: fin,
-        mate,
-        edge,
-        vertex: end.vertex,
-    };
-    rec.put(fin, Some(out), steps);
-    let back = Entity::Fin {
-        loop_,
-        next: mate,
-        prev: mate,
-        mate: fin,
-        edge,
-        vertex: to,
-    };
-    rec.put(mate, Some(back), steps);
+    EdgeTags { edge, fin, mate }
 }

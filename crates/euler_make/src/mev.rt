@@ -1,22 +1,24 @@
 //! The operator mev.
-ghost use Rattle.std.specs.Prelude.{◌≡◌, ◌≢◌, ◌≤◌, ◌∷◌, [], IsTrue, length};
-ghost use Rattle.std.specs.List.{AllByRecursion};
+ghost use Rattle.std.specs.Prelude.{◌≡◌, ◌≤◌, ◌∷◌, length};
+ghost use Rattle.std.specs.Option.{option_map_or};
+ghost use Rattle.std.specs.FinMap.{get};
 ghost use Rattle.pk_base.specs.declared.call.Call.TheVariants.{Mev};
-ghost use Rattle.pk_base.specs.declared.entity.Entity.TheVariants as entity;
-ghost use Rattle.pk_model.specs.Tags.{owns};
 ghost use Rattle.entity_store.specs.NextTags.{left};
+ghost use Rattle.solid_model.specs.Rows.{cost_of};
+ghost use Rattle.solid_model.specs.Rings.{lesser};
 ghost use Rattle.solid_model.specs.Sound.{IsSound};
-ghost use Rattle.solid_calls.specs.Pairs.{HasDone, HasTags, MayDo, NeedsAsRow, Takes};
-ghost use Rattle.solid_calls.specs.Room.{HasRoomForThese, PutsAmong};
-ghost use Rattle.euler_make.specs.Struts.{with_strut};
+ghost use Rattle.solid_calls.specs.Pairs.{HasDone, HasTags, MayDo, NeedsAsRow, Takes, row_on};
+ghost use Rattle.solid_edits.specs.Faces.{IsLoop};
+ghost use Rattle.euler_make.specs.FirstFins.{first_named};
 
+use crate::beside::number_beside;
 use crate::points::{outside, point_of};
 use entity_store::{Need, Recorder, Steps, Store, Tags};
 use halfedge::insert_pair;
-use pk_base::{Entity, Point, Refusal, Tag, TagListBuilder, Triple};
+use pk_base::{Entity, Refusal, Tag, TagListBuilder, Triple};
 use solid_calls::take_tag;
-use solid_edits::put_loop;
-use solid_places::{End, end_at};
+use solid_edits::{NewEdge, NewFin, put_edge};
+use solid_places::end_at;
 use std::sync::ledger::Ledger;
 
 /// An edge to a new vertex: the fin out starts at the other end, the fin back at the new vertex.
@@ -38,12 +40,12 @@ pub fn mev_need<L: Ledger>(
     requires { IsSound store.now.state.map }
     ensures { NeedsAsRow store.now.state.map (Mev end at) result }
 {
-    end_at(store, end, steps)?;
+    let place = end_at(store, end, steps)?;
     match outside(at) {
         Some(v) => Err(Refusal::OutOfRange(v)),
         None => Ok(Need {
             tags: 4,
-            changes: 7,
+            changes: 5 + number_beside(place.first),
             list: 4,
         }),
     }
@@ -76,10 +78,12 @@ pub fn mev_do<L: Ledger>(
     out: &mut TagListBuilder,
     steps: &mut Steps<L>,
 )
-    requires may { MayDo rec.old.store.now (Mev end at) }
-    requires tags { HasTags rec.old.store.now 4 tags.old out.old }
+    requires may { MayDo rec.old.store.now (Mev end at) (left tags.old) }
+    requires tags { HasTags rec.old.store.now
+        (cost_of (row_on rec.old.store.now.state.map (Mev end at))) tags.old out.old }
     ensures done { HasDone rec.old.store.now (Mev end at) (left tags.old) rec.new.store.now }
-    ensures takes { Takes 4 tags.old out.old tags.new out.new }
+    ensures takes { Takes (cost_of (row_on rec.old.store.now.state.map (Mev end at)))
+        tags.old out.old tags.new out.new }
     ensures same_store { rec.new.store.ghost_name ≡ rec.old.store.ghost_name }
 {
     // Each live entity and its owner stand in owned blocks.
@@ -88,9 +92,56 @@ pub fn mev_do<L: Ledger>(
         unreachable!()
     };
     let strut = take_strut(tags, out);
-    put_strut(rec, &place, &strut, point_of(at), steps);
+    let first = first_fin(rec.view(), place.loop_, steps);
+    let end_vertex = Entity::Vertex {
+        body: place.body,
+        point: point_of(at),
+    };
+    rec.put(strut.vertex, Some(end_vertex), steps);
+    // out was taken before back, and so has the lesser tag.
+    let edge = NewEdge {
+        tag: strut.edge,
+        body: place.body,
+        fin: NewFin {
+            tag: strut.out,
+            loop_: place.loop_,
+            vertex: place.vertex,
+        },
+        mate: NewFin {
+            tag: strut.back,
+            loop_: place.loop_,
+            vertex: strut.vertex,
+        },
+    };
+    put_edge(rec, &edge, steps);
     insert_pair(rec, place.first, None, strut.out, strut.back, steps);
-    put_loop(rec, place.loop_, place.face, strut.out, steps);
+    let longer = Entity::Loop {
+        face: place.face,
+        first: Some(lesser_of(first, strut.out)),
+        lone: None,
+    };
+    rec.put(place.loop_, Some(longer), steps);
+}
+
+/// The first fin of a loop, where it has fins.
+fn first_fin<L: Ledger>(store: &Store, loop_: Tag, steps: &mut Steps<L>) -> Option<Tag>
+    requires { IsLoop (get store.now.state.map loop_) }
+    ensures { result ≡ first_named (get store.now.state.map loop_) }
+{
+    let Some(Entity::Loop { first, .. }) = store.get(loop_, steps) else {
+        unreachable!()
+    };
+    *first
+}
+
+/// The lesser of the fin and the first one, where there is one.
+fn lesser_of(first: Option<Tag>, fin: Tag) -> Tag
+    ensures { result ≡ option_map_or (λ t. lesser t fin) first fin }
+{
+    let Some(first) = first else {
+        return fin;
+    };
+    if fin.0 < first.0 { fin } else { first }
 }
 
 /// Takes the next four tags for a strut, and lists them.
@@ -110,63 +161,5 @@ fn take_strut(tags: &mut Tags<'_>, out: &mut TagListBuilder) -> Strut
         edge,
         out: first,
         back,
-    }
-}
-
-/// Puts a strut from an end, with each of its fins a ring alone.
-fn put_strut<L: Ledger>(
-    rec: &mut Recorder<'_>,
-    end: &End,
-    strut: &Strut,
-    point: Point,
-    steps: &mut Steps<L>,
-)
-    requires owned { AllByRecursion (λ t. IsTrue (owns rec.old.store.now.state.blocks t))
-        (strut.now.vertex ∷ strut.now.edge ∷ strut.now.out ∷ strut.now.back
-        ∷ end.now.body ∷ end.now.loop_ ∷ []) }
-    requires apart { AllByRecursion
-        (λ t. (t ≢ end.now.body) × (t ≢ end.now.loop_))
-        (strut.now.vertex ∷ strut.now.edge ∷ strut.now.out ∷ strut.now.back ∷ []) }
-    requires room { HasRoomForThese rec.old.store.now.recording
-        (strut.now.vertex ∷ strut.now.edge ∷ strut.now.out ∷ strut.now.back ∷ []) }
-    ensures state { rec.new.store.now.state ≡ record rec.old.store.now.state
-        { map = with_strut rec.old.store.now.state.map end.now strut.now point } }
-    ensures puts { PutsAmong
-        (strut.now.vertex ∷ strut.now.edge ∷ strut.now.out ∷ strut.now.back ∷ [])
-        rec.old.store.now rec.new.store.now }
-    ensures same_store { rec.new.store.ghost_name ≡ rec.old.store.ghost_name }
-{
-    let Strut {
-        vertex,
-        edge,
-        out,
-        back,
-    } = *strut;
-    let body = end.body;
-    rec.put(vertex, Some(Entity::Vertex { body, point }), steps);
-    rec.put(edge, Some(Entity::Edge { body, fin: out }), steps);
-    rec.put(
-        out,
-        Some(fin_alone(end.loop_, out, back, edge, end.vertex)),
-        steps,
-    );
-    rec.put(
-        back,
-        Some(fin_alone(end.loop_, back, out, edge, vertex)),
-        steps,
-    );
-}
-
-/// A fin that is a ring alone.
-fn fin_alone(loop_: Tag, fin: Tag, mate: Tag, edge: Tag, vertex: Tag) -> Entity
-    ensures { result ≡ entity.Fin loop_ fin fin mate edge vertex }
-{
-    Entity::Fin {
-        loop_,
-        next: fin,
-        prev: fin,
-        mate,
-        edge,
-        vertex,
     }
 }

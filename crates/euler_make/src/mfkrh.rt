@@ -2,8 +2,9 @@
 ghost use Rattle.std.specs.Prelude.{◌≡◌};
 ghost use Rattle.entity_store.specs.NextTags.{left};
 ghost use Rattle.pk_base.specs.declared.call.Call.TheVariants.{Mfkrh};
+ghost use Rattle.solid_model.specs.Rows.{cost_of};
 ghost use Rattle.solid_model.specs.Sound.{IsSound};
-ghost use Rattle.solid_calls.specs.Pairs.{HasDone, HasTags, MayDo, NeedsAsRow, Takes};
+ghost use Rattle.solid_calls.specs.Pairs.{HasDone, HasTags, MayDo, NeedsAsRow, Takes, row_on};
 
 use entity_store::{Need, Recorder, Steps, Store, Tags};
 use pk_base::{Entity, Refusal, Tag, TagListBuilder};
@@ -55,10 +56,12 @@ pub fn mfkrh_do<L: Ledger>(
     out: &mut TagListBuilder,
     steps: &mut Steps<L>,
 )
-    requires may { MayDo rec.old.store.now (Mfkrh ring) }
-    requires tags { HasTags rec.old.store.now 1 tags.old out.old }
+    requires may { MayDo rec.old.store.now (Mfkrh ring) (left tags.old) }
+    requires tags { HasTags rec.old.store.now
+        (cost_of (row_on rec.old.store.now.state.map (Mfkrh ring))) tags.old out.old }
     ensures done { HasDone rec.old.store.now (Mfkrh ring) (left tags.old) rec.new.store.now }
-    ensures takes { Takes 1 tags.old out.old tags.new out.new }
+    ensures takes { Takes (cost_of (row_on rec.old.store.now.state.map (Mfkrh ring)))
+        tags.old out.old tags.new out.new }
     ensures same_store { rec.new.store.ghost_name ≡ rec.old.store.ghost_name }
 {
     // Its clauses say that the blocks of what is live are owned.

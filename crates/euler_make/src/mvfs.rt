@@ -3,9 +3,10 @@ ghost use Rattle.std.specs.Prelude.{◌≡◌, ◌≤◌, ◌∷◌, [], Some, l
 ghost use Rattle.std.specs.FinMap.{get};
 ghost use Rattle.entity_store.specs.NextTags.{left};
 ghost use Rattle.pk_base.specs.declared.call.Call.TheVariants.{Mvfs};
+ghost use Rattle.solid_model.specs.Rows.{cost_of};
 ghost use Rattle.solid_model.specs.Sound.{IsSound};
-ghost use Rattle.solid_calls.specs.Pairs.{HasDone, HasTags, MayDo, NeedsAsRow, Takes};
-ghost use Rattle.solid_calls.specs.Room.{HasRoomForThese, PutsAmong};
+ghost use Rattle.solid_calls.specs.Pairs.{HasDone, HasTags, MayDo, NeedsAsRow, Takes, row_on};
+ghost use Rattle.entity_store.specs.Room.{HasRoomForThese, PutsAmong};
 ghost use Rattle.solid_edits.specs.BareParts.{AreHostedBy, IsMadeOf, tags_of_parts, with_bare_body};
 
 use crate::points::{outside, point_of};
@@ -58,10 +59,12 @@ pub fn mvfs_do<L: Ledger>(
     out: &mut TagListBuilder,
     steps: &mut Steps<L>,
 )
-    requires may { MayDo rec.old.store.now (Mvfs at) }
-    requires tags { HasTags rec.old.store.now 5 tags.old out.old }
+    requires may { MayDo rec.old.store.now (Mvfs at) (left tags.old) }
+    requires tags { HasTags rec.old.store.now
+        (cost_of (row_on rec.old.store.now.state.map (Mvfs at))) tags.old out.old }
     ensures done { HasDone rec.old.store.now (Mvfs at) (left tags.old) rec.new.store.now }
-    ensures takes { Takes 5 tags.old out.old tags.new out.new }
+    ensures takes { Takes (cost_of (row_on rec.old.store.now.state.map (Mvfs at)))
+        tags.old out.old tags.new out.new }
     ensures same_store { rec.new.store.ghost_name ≡ rec.old.store.ghost_name }
 {
     let parts = take_parts(tags, out);

@@ -18,6 +18,7 @@ mod marks;
 mod operands;
 mod reading;
 mod walk;
+mod walks;
 
 /// A new partition 1, which thread 1 holds.
 fn begin(alloc: Global) -> Result<Partition<Euler>, NoMemory> {

@@ -9,9 +9,9 @@ use Rattle.list_facts.proofs.Each.{ByRecursion-at}
 use Rattle.entity_store.specs.Recording.{Recording}
 use Rattle.entity_store.specs.Store.{StoreView}
 use Rattle.solid_model.specs.Sound.{optional}
-use Rattle.solid_calls.specs.LinkedRings.{prev_at}
-use Rattle.solid_calls.specs.Room.{HasRoomForThese, PutsAmong}
-use Rattle.solid_calls.proofs.Room.{room-part, room-after, puts-then, puts-wider}
+use Rattle.halfedge.specs.LinkedRings.{prev_at}
+use Rattle.entity_store.specs.Room.{HasRoomForThese, PutsAmong}
+use Rattle.entity_store.proofs.Room.{room-part, room-after, puts-then, puts-wider}
 use Rattle.list_facts.proofs.Elements.{not_in_nil, Contains-cases}
 use Rattle.halfedge.specs.Splices.{spliced}
 

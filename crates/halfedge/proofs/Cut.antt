@@ -7,9 +7,9 @@ use Rattle.pk_model.specs.Apart.{NoRepeats}
 use Rattle.entity_store.specs.Store.{StoreView}
 use Rattle.std.specs.Prelude.{IfSome}
 use Rattle.solid_model.specs.Rings.{before, from, last_of}
-use Rattle.solid_sound.proofs.lists.Neighbours.{head_or}
-use Rattle.solid_calls.specs.LinkedRings.{IsRing, IsInRing, Relinks, next_at, ring_at}
-use Rattle.solid_calls.specs.Room.{HasRoomForThese, PutsAmong}
+use Rattle.solid_model.proofs.lists.Neighbours.{head_or}
+use Rattle.halfedge.specs.LinkedRings.{IsRing, IsInRing, Relinks, next_at, ring_at}
+use Rattle.entity_store.specs.Room.{HasRoomForThese, PutsAmong}
 use Rattle.list_facts.proofs.Elements.{Contains-first, Contains-later}
 use Rattle.halfedge.specs.Splices.{Splices, spliced}
 use Rattle.halfedge.proofs.Among.{HasAll, has-each}

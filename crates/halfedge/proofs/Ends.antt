@@ -3,10 +3,9 @@ use Rattle.std.proofs.Common.{◌≤◌, List, [], ◌∷◌, ◌++◌, length, 
 use Rattle.std.specs.Prelude.{Contains}
 use Rattle.std.proofs.lemmas.List.Elements.{Contains-append_left, Contains-append_right}
 use Rattle.pk_base.specs.declared.tag.Tag.{Tag}
-use Rattle.solid_model.specs.Rings.{last_of}
-use Rattle.solid_sound.proofs.lists.Neighbours.{head_or}
-use Rattle.solid_sound.proofs.lists.Cycles.{last_of-in, last_of-append}
-use Rattle.solid_calls.specs.LinkedRings.{ends_of}
+use Rattle.solid_model.specs.Rings.{last_of, ends_of}
+use Rattle.solid_model.proofs.lists.Neighbours.{head_or}
+use Rattle.solid_model.proofs.lists.Cycles.{last_of-in, last_of-append}
 use Rattle.list_facts.proofs.Elements.{Contains-first, Contains-later}
 use Rattle.halfedge.proofs.Among.{HasAll, has-none, has-more, has-each, has-both}
 

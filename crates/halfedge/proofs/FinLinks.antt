@@ -10,7 +10,7 @@ use Rattle.pk_model.specs.Tags.{owns}
 use Rattle.pk_model.specs.Maps.{EntityMap, with_entity}
 use Rattle.entity_store.specs.Store.{Stored, StoreView, IsHosted}
 use Rattle.entity_store.proofs.FirstValues.{get_put, get_other}
-use Rattle.solid_calls.specs.LinkedRings.{as_fin, unlinked, in_loop, Relabels}
+use Rattle.halfedge.specs.LinkedRings.{as_fin, unlinked, in_loop, Relabels}
 use Rattle.list_facts.proofs.Elements.{not_in_nil, Contains-first, Contains-cases}
 use Rattle.halfedge.specs.Splices.{ChangesLinks, SetsNext, SetsPrev}
 

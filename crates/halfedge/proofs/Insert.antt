@@ -7,9 +7,9 @@ use Rattle.pk_model.specs.Apart.{NoRepeats}
 use Rattle.pk_model.specs.Maps.{EntityMap}
 use Rattle.entity_store.specs.Store.{StoreView}
 use Rattle.solid_model.specs.Rings.{first_tag, last_of}
-use Rattle.solid_calls.specs.LinkedRings.{IsRing, IsInRing, Relinks, ring_of_any}
-use Rattle.solid_calls.specs.Room.{HasRoomForThese, PutsAmong}
-use Rattle.solid_calls.proofs.LinkedRings.{in-ring_starts, any_ring}
+use Rattle.halfedge.specs.LinkedRings.{IsRing, IsInRing, Relinks, ring_of_any}
+use Rattle.entity_store.specs.Room.{HasRoomForThese, PutsAmong}
+use Rattle.halfedge.proofs.LinkedRings.{in-ring_starts, any_ring}
 use Rattle.halfedge.specs.Splices.{Splices, spliced}
 use Rattle.halfedge.proofs.Among.{HasAll, has-each}
 use Rattle.halfedge.proofs.Ends.{has-last, two_and_ends, two-first, two-second, two-ends, two-other_ends, has-two}

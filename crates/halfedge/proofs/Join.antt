@@ -6,11 +6,11 @@ use Rattle.pk_base.specs.declared.tag.Tag.{Tag}
 use Rattle.pk_model.specs.Apart.{NoRepeats}
 use Rattle.entity_store.specs.Store.{StoreView}
 use Rattle.solid_model.specs.Rings.{last_of}
-use Rattle.solid_sound.proofs.lists.Neighbours.{head_or}
-use Rattle.solid_sound.proofs.lists.Cycles.{last_of-append}
-use Rattle.solid_calls.specs.LinkedRings.{IsRing, IsInRing, Relinks, next_at, ring_at}
-use Rattle.solid_calls.specs.Room.{HasRoomForThese, PutsAmong}
-use Rattle.solid_calls.proofs.LinkedRings.{in-ring_starts, ring-turned}
+use Rattle.solid_model.proofs.lists.Neighbours.{head_or}
+use Rattle.solid_model.proofs.lists.Cycles.{last_of-append}
+use Rattle.halfedge.specs.LinkedRings.{IsRing, IsInRing, Relinks, next_at, ring_at}
+use Rattle.entity_store.specs.Room.{HasRoomForThese, PutsAmong}
+use Rattle.halfedge.proofs.LinkedRings.{in-ring_starts, ring-turned}
 use Rattle.list_facts.proofs.Elements.{Contains-first, Contains-later}
 use Rattle.halfedge.specs.Splices.{Splices, spliced}
 use Rattle.halfedge.proofs.Among.{HasAll, has-each}

@@ -3,8 +3,8 @@ use Rattle.std.proofs.Common.{◌≡◌, ◌≢◌, ⊎_elim, sym, ap, subst, �
 use Rattle.std.specs.Prelude.{IsSome, is_some}
 use Rattle.pk_base.specs.declared.tag.Tag.{Tag}
 use Rattle.pk_model.specs.Maps.{EntityMap}
-use Rattle.solid_sound.proofs.shapes.Found.{same_or_other}
-use Rattle.solid_calls.specs.LinkedRings.{AreLinked, next_at}
+use Rattle.pk_base.proofs.Same.{same_or_other}
+use Rattle.halfedge.specs.LinkedRings.{AreLinked, next_at}
 use Rattle.halfedge.specs.Splices.{Joins}
 
 -- a fin stays one

@@ -10,12 +10,12 @@ use Rattle.pk_model.specs.Tags.{owns}
 use Rattle.pk_model.specs.Apart.{NoRepeats}
 use Rattle.pk_model.specs.Maps.{EntityMap}
 use Rattle.entity_store.specs.Store.{Stored, StoreView}
-use Rattle.solid_sound.proofs.lists.Neighbours.{head_or}
-use Rattle.solid_sound.proofs.shapes.Reading.{not_before}
-use Rattle.solid_calls.specs.LinkedRings.{IsInRing, Relabels, as_fin, in_loop, next_at, ring_at}
-use Rattle.solid_calls.specs.Room.{HasRoomForThese, PutsAmong}
-use Rattle.solid_calls.proofs.LinkedRings.{in-ring_starts}
-use Rattle.solid_calls.proofs.Room.{room-part, puts-wider}
+use Rattle.solid_model.proofs.lists.Neighbours.{head_or}
+use Rattle.solid_model.proofs.Reading.{not_before}
+use Rattle.halfedge.specs.LinkedRings.{IsInRing, Relabels, as_fin, in_loop, next_at, ring_at}
+use Rattle.entity_store.specs.Room.{HasRoomForThese, PutsAmong}
+use Rattle.halfedge.proofs.LinkedRings.{in-ring_starts}
+use Rattle.entity_store.proofs.Room.{room-part, puts-wider}
 use Rattle.list_facts.proofs.Elements.{Contains-cases}
 use Rattle.halfedge.proofs.Among.{has-one, puts-both, room-next}
 use Rattle.halfedge.proofs.RingFins.{starts-ring}

@@ -1,4 +1,5 @@
 -- In reading order.
+pub mod LinkedRings
 pub mod FinLinks
 pub mod Joined
 pub mod RingFins

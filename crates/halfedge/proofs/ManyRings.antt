@@ -9,11 +9,11 @@ use Rattle.pk_model.specs.Apart.{NoRepeats}
 use Rattle.pk_model.specs.Maps.{EntityMap}
 use Rattle.pk_model.proofs.TagLists.{NoRepeats-between}
 use Rattle.solid_model.specs.Rings.{last_of, next_in, previous_in, neighbours, neighbours_from}
-use Rattle.solid_sound.proofs.lists.Neighbours.{head_or, neighbours-in, times, times-append, times-once, once-times}
-use Rattle.solid_sound.proofs.lists.Cycles.{steps, step_or_last, step-in, last-in, merge-first, merge-second, merge-cases, last_of-append}
-use Rattle.solid_sound.proofs.lists.Turned.{Turned, turned-times}
-use Rattle.solid_calls.specs.LinkedRings.{AreLinked, IsRing, prev_at}
-use Rattle.solid_calls.proofs.LinkedRings.{next-told, linked-at, first-links, ring-turned}
+use Rattle.solid_model.proofs.lists.Neighbours.{head_or, neighbours-in, times, times-append, times-once, once-times}
+use Rattle.solid_model.proofs.lists.Cycles.{steps, step_or_last, step-in, last-in, merge-first, merge-second, merge-cases, last_of-append}
+use Rattle.solid_model.proofs.lists.Turned.{Turned, turned-times}
+use Rattle.halfedge.specs.LinkedRings.{AreLinked, IsRing, prev_at}
+use Rattle.halfedge.proofs.LinkedRings.{next-told, linked-at, first-links, ring-turned}
 use Rattle.list_facts.proofs.Elements.{Contains-first}
 use Rattle.list_facts.proofs.Each.{ByRecursion-contains}
 use Rattle.halfedge.specs.Splices.{Joins, Splices}

@@ -5,10 +5,10 @@ use Rattle.std.proofs.lemmas.Option.{same_Some}
 use Rattle.pk_base.specs.declared.tag.Tag.{Tag}
 use Rattle.pk_model.specs.Maps.{EntityMap}
 use Rattle.solid_model.specs.Rings.{last_of}
-use Rattle.solid_sound.proofs.lists.Neighbours.{head_or}
-use Rattle.solid_sound.proofs.lists.Cycles.{last_of-in}
-use Rattle.solid_calls.specs.LinkedRings.{next_at, prev_at, IsRing, ring_at, IsInRing}
-use Rattle.solid_calls.proofs.LinkedRings.{in-ring_of, in-ring_starts, first-links}
+use Rattle.solid_model.proofs.lists.Neighbours.{head_or}
+use Rattle.solid_model.proofs.lists.Cycles.{last_of-in}
+use Rattle.halfedge.specs.LinkedRings.{next_at, prev_at, IsRing, ring_at, IsInRing}
+use Rattle.halfedge.proofs.LinkedRings.{in-ring_of, in-ring_starts, first-links}
 use Rattle.list_facts.proofs.Elements.{Contains-first, Contains-later}
 
 -- the first of a list, or f, stands in the list with f

@@ -5,11 +5,11 @@ use Rattle.std.proofs.lemmas.List.Elements.{Contains-append_left, Contains-appen
 use Rattle.pk_base.specs.declared.tag.Tag.{Tag}
 use Rattle.pk_model.specs.Apart.{NoRepeats}
 use Rattle.entity_store.specs.Store.{StoreView}
-use Rattle.solid_model.specs.Rings.{before, from, last_of}
+use Rattle.solid_model.specs.Rings.{before, from, last_of, ends_of}
 use Rattle.list_facts.proofs.Elements.{Contains-first}
-use Rattle.solid_sound.proofs.lists.Cycles.{last_of-in}
-use Rattle.solid_calls.specs.LinkedRings.{IsRing, IsInRing, Relinks, ring_at, ends_of}
-use Rattle.solid_calls.specs.Room.{HasRoomForThese, PutsAmong}
+use Rattle.solid_model.proofs.lists.Cycles.{last_of-in}
+use Rattle.halfedge.specs.LinkedRings.{IsRing, IsInRing, Relinks, ring_at}
+use Rattle.entity_store.specs.Room.{HasRoomForThese, PutsAmong}
 use Rattle.halfedge.specs.Splices.{Splices, spliced}
 use Rattle.halfedge.proofs.Among.{HasAll, has-each}
 use Rattle.halfedge.proofs.ManyRings.{rings-swapped, rings-later}

@@ -8,13 +8,13 @@ use Rattle.pk_base.specs.declared.tag.Tag.{Tag}
 use Rattle.pk_model.specs.Maps.{EntityMap}
 use Rattle.std.proofs.lemmas.List.Elements.{Contains-append_cases}
 use Rattle.entity_store.specs.Store.{StoreView}
-use Rattle.solid_model.specs.Rings.{before, from, first_tag, last_of}
-use Rattle.solid_sound.proofs.lists.Neighbours.{head_or}
-use Rattle.solid_sound.proofs.lists.Cycles.{cut-at}
-use Rattle.solid_calls.specs.LinkedRings.{IsRing, IsInRing, Relinks, next_at, prev_at, ring_at, ends_of, unlinked}
-use Rattle.solid_calls.specs.Room.{HasRoomForThese, PutsAmong}
-use Rattle.solid_calls.proofs.LinkedRings.{in-ring_of, in-ring_starts, first-links}
-use Rattle.solid_calls.proofs.Room.{room-after, room-part, puts-none, puts-then, puts-wider}
+use Rattle.solid_model.specs.Rings.{before, from, first_tag, last_of, ends_of}
+use Rattle.solid_model.proofs.lists.Neighbours.{head_or}
+use Rattle.solid_model.proofs.lists.Cycles.{cut-at}
+use Rattle.halfedge.specs.LinkedRings.{IsRing, IsInRing, Relinks, next_at, prev_at, ring_at, unlinked}
+use Rattle.entity_store.specs.Room.{HasRoomForThese, PutsAmong}
+use Rattle.halfedge.proofs.LinkedRings.{in-ring_of, in-ring_starts, first-links}
+use Rattle.entity_store.proofs.Room.{room-after, room-part, puts-none, puts-then, puts-wider}
 use Rattle.list_facts.proofs.Elements.{not_in_nil, Contains-first}
 use Rattle.halfedge.specs.Splices.{Splices, spliced}
 use Rattle.halfedge.proofs.Among.{HasAll, has-each, has-spliced, spliced-is}

@@ -12,11 +12,12 @@ use Rattle.pk_model.specs.Apart.{NoRepeats}
 use Rattle.pk_model.specs.Maps.{EntityMap}
 use Rattle.list_facts.proofs.Each.{ByRecursion-at}
 use Rattle.solid_model.specs.Rings.{from, first_tag, lesser, least_of, from_least, neighbours}
-use Rattle.solid_sound.proofs.lists.Neighbours.{head_or, neighbour_of, parts_at, not_same}
-use Rattle.solid_sound.proofs.lists.Cycles.{least, written-first}
-use Rattle.solid_sound.proofs.shapes.Reading.{not_before}
-use Rattle.solid_calls.specs.LinkedRings.{IsRing, IsInRing, next_at, ring_at}
-use Rattle.solid_calls.proofs.LinkedRings.{in-ring_of, in-ring_starts, linked-at, ring-fits}
+use Rattle.solid_model.proofs.lists.Neighbours.{head_or, neighbour_of, parts_at}
+use Rattle.pk_base.proofs.Same.{not_same}
+use Rattle.solid_model.proofs.lists.Cycles.{least, written-first}
+use Rattle.solid_model.proofs.Reading.{not_before}
+use Rattle.halfedge.specs.LinkedRings.{IsRing, IsInRing, next_at, ring_at}
+use Rattle.halfedge.proofs.LinkedRings.{in-ring_of, in-ring_starts, linked-at, ring-fits}
 use Rattle.list_facts.proofs.Elements.{Contains-first, Contains-later}
 use Rattle.halfedge.proofs.RingFins.{starts-ring, in-ring_next}
 

@@ -1,1 +1,3 @@
+-- In reading order.
+pub mod LinkedRings
 pub mod Splices

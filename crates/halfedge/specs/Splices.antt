@@ -4,7 +4,7 @@ use Rattle.std.specs.FinMap.{get}
 use Rattle.pk_base.specs.declared.tag.Tag.{Tag}
 use Rattle.pk_model.specs.Maps.{EntityMap}
 use Rattle.solid_model.specs.Sound.{optional}
-use Rattle.solid_calls.specs.LinkedRings.{AreLinked, next_at, prev_at, unlinked}
+use Rattle.halfedge.specs.LinkedRings.{AreLinked, next_at, prev_at, unlinked}
 
 -- No other entity than f has changed, and of f nothing but its links.
 pub record ChangesLinks (old : EntityMap) (f : Tag) (new : EntityMap) : Type 0 where

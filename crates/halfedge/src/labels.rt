@@ -1,8 +1,8 @@
 //! The loop that the fins of a ring name.
 ghost use Rattle.std.specs.Prelude.{◌≡◌, ◌≢◌, [], ◌∷◌, Contains, IsSome, IsTrue};
 ghost use Rattle.pk_model.specs.Tags.{owns};
-ghost use Rattle.solid_calls.specs.LinkedRings.{IsInRing, Relabels, next_at, ring_at};
-ghost use Rattle.solid_calls.specs.Room.{HasRoomForThese, PutsAmong};
+ghost use Rattle.halfedge.specs.LinkedRings.{IsInRing, Relabels, next_at, ring_at};
+ghost use Rattle.entity_store.specs.Room.{HasRoomForThese, PutsAmong};
 
 use entity_store::{Recorder, Steps};
 use pk_base::{Entity, Tag};

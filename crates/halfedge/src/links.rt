@@ -2,8 +2,8 @@
 //! before two fins changes places.
 ghost use Rattle.std.specs.Prelude.{◌≡◌, IsSome, IfSome, IfNone, ◌∷◌, []};
 ghost use Rattle.halfedge.specs.Splices.{Joins, SetsNext, SetsPrev, Splices, spliced};
-ghost use Rattle.solid_calls.specs.LinkedRings.{IsInRing, next_at, prev_at, mate_in};
-ghost use Rattle.solid_calls.specs.Room.{HasRoomForThese, PutsAmong};
+ghost use Rattle.halfedge.specs.LinkedRings.{IsInRing, next_at, prev_at, mate_in};
+ghost use Rattle.entity_store.specs.Room.{HasRoomForThese, PutsAmong};
 
 use crate::read::ring_next;
 use entity_store::{Recorder, Steps, Store};

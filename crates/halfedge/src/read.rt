@@ -1,7 +1,7 @@
 //! What rings are: read, and not changed.
 ghost use Rattle.std.specs.Prelude.{◌≡◌, Some, IsSome, length};
 ghost use Rattle.solid_model.specs.Rings.{first_tag, from_least};
-ghost use Rattle.solid_calls.specs.LinkedRings.{IsInRing, next_at, ring_at};
+ghost use Rattle.halfedge.specs.LinkedRings.{IsInRing, next_at, ring_at};
 
 use entity_store::{Recorder, Steps, Store};
 use pk_base::{Entity, Tag};

@@ -2,9 +2,9 @@
 //! empty; a ring is written from any of its fins.
 ghost use Rattle.std.specs.Prelude.{◌≡◌, ◌≢◌, ◌++◌, ◌∷◌, [], drop, IfSome, Contains};
 ghost use Rattle.pk_model.specs.Apart.{NoRepeats};
-ghost use Rattle.solid_model.specs.Rings.{before, from as from_fin};
-ghost use Rattle.solid_calls.specs.LinkedRings.{IsInRing, IsRing, Relinks, ends_of, mate_in, ring_at, ring_of_any};
-ghost use Rattle.solid_calls.specs.Room.{HasRoomForThese, PutsAmong};
+ghost use Rattle.solid_model.specs.Rings.{before, from as from_fin, ends_of};
+ghost use Rattle.halfedge.specs.LinkedRings.{IsInRing, IsRing, Relinks, mate_in, ring_at, ring_of_any};
+ghost use Rattle.entity_store.specs.Room.{HasRoomForThese, PutsAmong};
 
 use crate::links::{append, mate_of, splice, unhook};
 use entity_store::{Recorder, Steps};

@@ -1,5 +1,5 @@
 -- What is in a list.
-use Rattle.std.proofs.Common.{◌≡◌, ℕ, zero, suc, ◌⊎◌, inl, inr, ⊎_elim, Bool, true, false, cond, List, [], ◌∷◌, refl, sym, ap, subst, ◌∙◌, arith}
+use Rattle.std.proofs.Common.{◌≡◌, ℕ, zero, suc, ◌⊎◌, inl, inr, ⊎_elim, Bool, true, false, cond, List, [], ◌∷◌, ◌++◌, refl, sym, ap, subst, ◌∙◌, arith}
 use Rattle.std.specs.Prelude.{map, filter, take, drop, Contains}
 use Rattle.std.specs.List.{flat_map}
 use Rattle.std.proofs.lemmas.List.{take-append-drop}
@@ -26,6 +26,21 @@ Contains-only x y (suc k, h, e) = absurd (omega arith)
 
 pub Contains-take : {X : Type 0} (n : ℕ) (xs : List X) (x : X) → Contains (take n xs) x → Contains xs x
 Contains-take n xs x h = subst (λ l. Contains l x) (take-append-drop n xs) (Contains-append_left (take n xs) (drop n xs) x h)
+
+-- a list around one of its elements
+pub record Around {X : Type 0} (x : X) (xs : List X) : Type 0 where
+  pub ahead : List X
+  pub behind : List X
+  pub is : xs ≡ ahead ++ x ∷ behind
+
+pub around : {X : Type 0} (x : X) (xs : List X) → Contains xs x → Around x xs
+around x [] h = absurd (not_in_nil x h)
+around x (y ∷ ys) h =
+    ⊎_elim {C = Around x (y ∷ ys)} (λ (e : y ≡ x). record { ahead = []; behind = ys; is = ap (λ z. z ∷ ys) e })
+    (λ (k : Contains ys x).
+    let rest = around x ys k in
+    record { ahead = y ∷ rest.ahead; behind = rest.behind; is = ap (λ zs. y ∷ zs) rest.is })
+    (Contains-cases y ys x h)
 
 -- ---- those that pass a test
 

@@ -1,7 +1,8 @@
 -- What is performed of a call that is done, from what its own function asks and promises.
-use Rattle.std.proofs.Common.{◌≡◌, ℕ, zero, suc, ◌+◌, ◌≤◌, Bool, true, false, cond, List, [], ◌∷◌, ◌++◌, length, take, Ok, Err, refl, sym, ap, subst, ◌∙◌, arith}
-use Rattle.std.specs.Prelude.{IsOk, IsTrue}
+use Rattle.std.proofs.Common.{◌≡◌, ℕ, zero, suc, ◌+◌, ◌≤◌, ⊎_elim, Bool, true, false, cond, List, [], ◌∷◌, ◌++◌, length, take, Ok, Err, refl, sym, ap, subst, ◌∙◌, arith}
+use Rattle.std.specs.Prelude.{Contains, IsOk, IsTrue}
 use Rattle.std.specs.List.{AllByRecursion}
+use Rattle.std.proofs.lemmas.List.Elements.{Contains-append_cases, Contains-append_right}
 use Rattle.pk_base.specs.Building.{Building}
 use Rattle.pk_base.specs.declared.act.Reply.{Reply}
 use Rattle.pk_base.specs.declared.act.Reply.TheVariants.{Made}
@@ -16,19 +17,23 @@ use Rattle.entity_store.specs.Recorder.{Records}
 use Rattle.entity_store.specs.Recording.{room_left}
 use Rattle.entity_store.specs.Store.{StoreView}
 use Rattle.solid_model.specs.Items.{Shape}
-use Rattle.solid_model.specs.Rows.{Row}
+use Rattle.solid_model.specs.Rows.{Row, cost_of}
 use Rattle.solid_model.specs.Rows.Effect.{Makes, Changes, Tells}
 use Rattle.solid_model.specs.Links.{links}
 use Rattle.solid_model.specs.Shapes.{shape_of}
-use Rattle.solid_model.specs.Room.{puts_of}
+use Rattle.solid_model.specs.Calls.{row_of}
+use Rattle.solid_model.specs.Room.{puts_of, tags_changed, tags_put}
+use Rattle.solid_model.proofs.Room.{length-tags_put}
+use Rattle.entity_store.proofs.Room.{puts-wider, records-of, room-of_length, room-part}
+use Rattle.list_facts.proofs.Elements.{Contains-take, not_in_nil}
 use Rattle.solid_model.specs.Euler as all
-use Rattle.solid_model.specs.Euler.{cost_of, list_of, step_by}
+use Rattle.solid_model.specs.Euler.{list_of, step_by}
 use Rattle.solid_calls.specs.Pairs.{HasDone, HasTags, MayDo, Takes, reached, row_on}
 use Rattle.solid_calls.proofs.NextTags.{takes-none}
 use Rattle.modeller.specs.Euler.{euler, is_done}
 use Rattle.modeller.specs.EulerLaws.{no_call}
 use Rattle.modeller.specs.Replies.{reply_of}
-use Rattle.solid_calls.proofs.RowKinds.{IsChanging, IsMaking, IsPlain, cost-changing, cost-making}
+use Rattle.solid_calls.proofs.RowKinds.{IsChanging, IsPlain, cost-changing}
 
 -- ---- what is asked
 
@@ -51,12 +56,15 @@ module _ (s : StoreView) (c : Call) (tags : TagsView) (out : Building Tag) (may 
   goes : IsOk (row_on s.state.map c)
   goes = row-goes s.state.map (left tags) (row_on s.state.map c) (subst (λ b. IsOk (cond b (all.euler.step s.state.map c (left tags)) no_call)) is may.goes)
 
-  pub may-do : MayDo s c
-  may-do = record {
-    sound = may.asked.sound;
-    goes = goes;
-    room = subst (λ b. cond b (puts_of (shape_of s.state.map) c) 0 ≤ room_left s.recording) is may.changes;
-  }
+  pub may-do : MayDo s c (left tags)
+  may-do =
+      let S : Shape = shape_of s.state.map in
+      let fits = subst (λ b. cond b (puts_of S c) 0 ≤ room_left s.recording) is may.changes in
+      record {
+        sound = may.asked.sound;
+        goes = goes;
+        room = room-of_length s.recording (tags_put S c (left tags)) (omega (arith, length-tags_put S c (left tags), fits));
+      }
 
   list-cost : (row : Row) → cost_of row ≤ list_of row
   list-cost (Ok (Makes k reaches)) = omega arith
@@ -107,7 +115,8 @@ performs old new c tags tags' out out' reply may plain done takes replies =
       replies = replies ∙ ap reply_of (takes.lists ∙ ap (λ ts. ts ++ take (cost_of row) (left tags)) may.empty);
       state = done.state;
       takes = subst (λ b. tags' ≡ record tags { used = tags.used + cond b (cost_of row) 0 }) (sym is) takes.taken;
-      records = subst (λ b. Records (cond b (puts_of (shape_of m) c) 0) old new) (sym is) done.records;
+      records = subst (λ b. Records (cond b (puts_of (shape_of m) c) 0) old new) (sym is)
+          (records-of (tags_put (shape_of m) c (left tags)) (puts_of (shape_of m) c) old new done.puts (length-tags_put (shape_of m) c (left tags)));
     }
 
 reached-changing : (S : Shape) (tags other : List Tag) (row : Row) → IsChanging row → reached S tags row ≡ reached S other row
@@ -116,31 +125,41 @@ reached-changing S tags other (Ok (Changes o)) h = refl
 reached-changing S tags other (Ok (Tells reply)) h = absurd h
 reached-changing S tags other (Err e) h = refl
 
+-- what a call may put without tags, it may put with any
+put-without : (S : Shape) (c : Call) (tags : List Tag) (t : Tag) → Contains (tags_put S c []) t → Contains (tags_put S c tags) t
+put-without S c tags t h =
+    let n : ℕ = cost_of (row_of S c) in
+    ⊎_elim (λ (l : Contains (take n []) t). absurd (not_in_nil t (Contains-take n [] t l)))
+    (λ (r : Contains (tags_changed S c) t). Contains-append_right (take n tags) (tags_changed S c) t r)
+    (Contains-append_cases (take n []) (tags_changed S c) t h)
+
 -- ---- a call, as its own function has it
 
 module _ (c d : Call) (is : c ≡ d) where
-  pub may-as : (s : StoreView) → MayDo s c → MayDo s d
-  may-as s may = subst (MayDo s) is may
+  pub may-as : (s : StoreView) (tags : List Tag) → MayDo s c tags → MayDo s d tags
+  may-as s tags may = subst (λ x. MayDo s x tags) is may
 
-  pub tags-making : (k : ℕ) (s : StoreView) (tags : TagsView) (out : Building Tag) → IsMaking k (row_on s.state.map d) → MayDo s c → HasTags s (cost_of (row_on s.state.map c)) tags out → HasTags s k tags out
-  tags-making k s tags out making may has =
-      let cost : cost_of (row_on s.state.map c) ≡ k = ap (λ x. cost_of (row_on s.state.map x)) is ∙ cost-making k (row_on s.state.map d) making (may-as s may).goes in
-      subst (λ n. HasTags s n tags out) cost has
+  pub may-without : (s : StoreView) (tags : List Tag) → MayDo s c tags → MayDo s d []
+  may-without s tags may =
+      let here = may-as s tags may in
+      let S : Shape = shape_of s.state.map in
+      record {
+        sound = here.sound;
+        goes = here.goes;
+        room = room-part s.recording (tags_put S d tags) (tags_put S d []) here.room (put-without S d tags);
+      }
 
   pub done-as : (old new : StoreView) (tags : List Tag) → HasDone old d tags new → HasDone old c tags new
   done-as old new tags done = subst (λ x. HasDone old x tags new) (sym is) done
 
-  pub takes-making : (k : ℕ) (s : StoreView) (tags tags' : TagsView) (out out' : Building Tag) → IsMaking k (row_on s.state.map d) → MayDo s c → Takes k tags out tags' out' → Takes (cost_of (row_on s.state.map c)) tags out tags' out'
-  takes-making k s tags tags' out out' making may takes =
-      let cost : cost_of (row_on s.state.map c) ≡ k = ap (λ x. cost_of (row_on s.state.map x)) is ∙ cost-making k (row_on s.state.map d) making (may-as s may).goes in
-      subst (λ n. Takes n tags out tags' out') (sym cost) takes
-
   pub done-changing : (old new : StoreView) (tags : List Tag) → IsChanging (row_on old.state.map d) → HasDone old d [] new → HasDone old c tags new
-  done-changing old new tags changing done = done-as old new tags (record {
-    state = done.state ∙ ap (λ S. record old.state { map = links S }) (reached-changing (shape_of old.state.map) [] tags (row_on old.state.map d) changing);
-    sound = done.sound;
-    records = done.records;
-  })
+  done-changing old new tags changing done =
+      let S : Shape = shape_of old.state.map in
+      done-as old new tags (record {
+        state = done.state ∙ ap (λ R. record old.state { map = links R }) (reached-changing S [] tags (row_on old.state.map d) changing);
+        sound = done.sound;
+        puts = puts-wider (tags_put S d []) (tags_put S d tags) old new done.puts (put-without S d tags);
+      })
 
   pub takes-changing : (m : EntityMap) (tags : TagsView) (out : Building Tag) → IsChanging (row_on m d) → Takes (cost_of (row_on m c)) tags out tags out
   takes-changing m tags out changing =

@@ -1,6 +1,6 @@
 ghost use Rattle.std.specs.Prelude.{◌≡◌, IsTrue};
 ghost use Rattle.entity_store.specs.NextTags.{left};
-ghost use Rattle.solid_model.specs.Euler.{cost_of};
+ghost use Rattle.solid_model.specs.Rows.{cost_of};
 ghost use Rattle.solid_calls.specs.Pairs.{HasDone, HasTags, MayDo, Takes, row_on};
 ghost use Rattle.modeller.specs.Euler.{euler, is_done as the_call_is_done};
 ghost use Rattle.modeller.specs.EulerLaws.{euler-IsModeller};
@@ -89,7 +89,7 @@ fn carry_out<L: Ledger>(
     steps: &mut Steps<L>,
 )
     requires built { IsTrue (the_call_is_done call.now) }
-    requires may { MayDo rec.old.store.now call.now }
+    requires may { MayDo rec.old.store.now call.now (left tags.old) }
     requires tags { HasTags rec.old.store.now
         (cost_of (row_on rec.old.store.now.state.map call.now)) tags.old out.old }
     ensures done { HasDone rec.old.store.now call.now (left tags.old) rec.new.store.now }

@@ -1,7 +1,7 @@
 -- The tests of `specs/Entity.antt` are true exactly of equal values.
-use Rattle.std.proofs.Common.{◌≡◌, Option, Some, None, refl, sym, ap}
+use Rattle.std.proofs.Common.{◌≡◌, ◌≢◌, ◌⊎◌, inl, inr, ⊎_elim, true, false, Option, Some, None, refl, sym, ap, ◌∙◌}
 use Rattle.std.specs.Bool.{Decides}
-use Rattle.std.proofs.lemmas.Bool.{true≢false}
+use Rattle.std.proofs.lemmas.Bool.{true≢false, cases_Bool}
 use Rattle.std.proofs.lemmas.Bool.Decides.{Decides-and, Decides-like, Decides-eqb, Decides-int_eq}
 use Rattle.std.proofs.lemmas.Slice.Eq.{bytes_eq-Decides}
 use Rattle.pk_base.specs.declared.tag.Tag.{Tag}
@@ -51,3 +51,20 @@ same_entity-Decides (Attr a n v) (Attr b m w) =
     Decides-like _ (λ h i. Attr (h.0 i) (h.1.0 i) (h.1.1 i)) (λ e. (cc, (cc, cc)))
     (Decides-and _ _ (same_tag-Decides a b) (Decides-and _ _ (same_name-Decides n m) (Decides-int_eq v w)))
 same_entity-Decides a b = (λ e. absurd (true≢false (sym e)), λ e. absurd (cc))
+
+-- ---- equal tags, and different ones
+
+pub same_itself : (t : Tag) → same_tag t t ≡ true
+same_itself t = (same_tag-Decides t t).1 refl
+
+pub same_means : (t u : Tag) → same_tag t u ≡ true → t ≡ u
+same_means t u h = (same_tag-Decides t u).0 h
+
+pub differs_means : (t u : Tag) → same_tag t u ≡ false → t ≢ u
+differs_means t u h e = true≢false (sym ((same_tag-Decides t u).1 e) ∙ h)
+
+pub not_same : (t u : Tag) → t ≢ u → same_tag t u ≡ false
+not_same t u h = ⊎_elim (λ (l : same_tag t u ≡ true). absurd (h (same_means t u l))) (λ r. r) (cases_Bool (same_tag t u))
+
+pub same_or_other : (t u : Tag) → (t ≡ u) ⊎ (t ≢ u)
+same_or_other t u = ⊎_elim {C = (t ≡ u) ⊎ (t ≢ u)} (λ (l : same_tag t u ≡ true). inl (same_means t u l)) (λ (r : same_tag t u ≡ false). inr (differs_means t u r)) (cases_Bool (same_tag t u))

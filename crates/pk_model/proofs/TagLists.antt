@@ -158,9 +158,13 @@ owns-Contains (b ∷ bs) t h =
 
 -- ---- no repeats
 
+-- a tag that is none of these
+abbrev pub NoneOf : Tag → List Tag → Type 0
+NoneOf t us = AllByRecursion (λ u. t ≢ u) us
+
 -- no tag of the one list is in the other
 abbrev pub Disjoint : List Tag → List Tag → Type 0
-Disjoint xs ys = AllByRecursion (λ x. AllByRecursion (λ y. x ≢ y) ys) xs
+Disjoint xs ys = AllByRecursion (λ x. NoneOf x ys) xs
 
 pub NoRepeats-append : (xs ys : List Tag) → NoRepeats xs → NoRepeats ys → Disjoint xs ys → NoRepeats (xs ++ ys)
 NoRepeats-append [] ys h k d = k

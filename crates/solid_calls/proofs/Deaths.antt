@@ -1,10 +1,11 @@
--- How many items die with those that are killed: they themselves, and their attributes.
+-- What dies with those that are killed: they themselves, and their attributes.
 use Rattle.std.proofs.Common.{◌≡◌, ◌≢◌, ◌+◌, ⊎_elim, Bool, true, false, cond, ◌||◌, List, [], ◌∷◌, length, Option, Some, refl, sym, ap, subst, ◌∙◌, length-append, arith}
-use Rattle.std.specs.Prelude.{T, ℤ, map, option_map, Contains}
+use Rattle.std.specs.Prelude.{T, ℤ, filter, map, option_map, Contains}
 use Rattle.std.specs.Option.{option_map_or}
 use Rattle.std.specs.List.{AllByRecursion, count_by, flat_map, sum_by}
 use Rattle.std.specs.FinMap.{entries, get, get-entries, is_sorted, keys}
-use Rattle.std.proofs.lemmas.Bool.{cases_Bool, true≢false}
+use Rattle.std.proofs.lemmas.Bool.{cases_Bool, true≢false, or_left, or_right}
+use Rattle.std.proofs.lemmas.List.{length-map}
 use Rattle.std.proofs.lemmas.List.Sums.{length-filter, sum_by-cons}
 use Rattle.std.proofs.lemmas.Option.{same_Some}
 use Rattle.pk_base.specs.Entity.{same_tag}
@@ -22,17 +23,19 @@ use Rattle.solid_model.specs.Items.{Item, Shape, item_at, class_of_item}
 use Rattle.solid_model.specs.Items.Item.{Body, Shell, Face, Loop, Fin, Edge, Vertex, Attr}
 use Rattle.solid_model.specs.Deaths.{dies_with, is_attribute_of}
 use Rattle.solid_model.specs.Rings.{is_among}
-use Rattle.solid_model.specs.Room.{deaths}
+use Rattle.solid_model.specs.Room.{dying}
 use Rattle.solid_model.specs.Shapes.{item_of, shape_of}
 use Rattle.solid_model.specs.Sound.{IsSound, class_at}
 use Rattle.solid_sound.proofs.shapes.Attributes.{no_attribute_of}
 use Rattle.solid_sound.proofs.shapes.Bodies.{item_of_class}
 use Rattle.solid_sound.proofs.shapes.Names.{NotAttr}
-use Rattle.solid_sound.proofs.lists.Neighbours.{differs_means, is_among-in, not_among, not_same, one_if, same_itself, same_means}
-use Rattle.solid_sound.proofs.shapes.Reading.{find-map}
+use Rattle.pk_base.proofs.Same.{differs_means, not_same, same_itself, same_means}
+use Rattle.solid_model.proofs.lists.Neighbours.{is_among-in, not_among, one_if}
+use Rattle.solid_model.proofs.Reading.{find-map}
 use Rattle.solid_sound.proofs.rows.RowKeeps.{well-shape}
 use Rattle.solid_sound.proofs.shapes.Sums.{Weight, weight_at, sum-alike, sum-but, sum-nothing}
-use Rattle.list_facts.proofs.Elements.{Contains-first}
+use Rattle.list_facts.proofs.Elements.{Contains-filter, Contains-first, Contains-map}
+use Rattle.solid_sound.proofs.shapes.Found.{item-among}
 use Rattle.solid_calls.specs.Attributes.{attributes_on, is_attribute_on}
 
 -- all of the owners' attributes
@@ -168,23 +171,42 @@ none_dies (t, Fin mate edge vertex) = refl
 none_dies (t, Edge body) = refl
 none_dies (t, Vertex body point) = refl
 
-pub deaths-of : (m : EntityMap) (ts : List Tag) → IsSound m → NoRepeats ts → AllByRecursion (λ t. (c : Class) × (class_at (shape_of m) t ≡ Some c) × (c ≢ class.Attr)) ts → deaths (shape_of m) ts ≡ length ts + length (all_attributes m ts)
-deaths-of m [] sound once may =
-    length-filter (dies_with []) (shape_of m) ∙ sum-nothing (λ x. one_if (dies_with [] x)) (shape_of m) (well-shape m sound).written.ascends (λ t x e. none_dies (t, x))
-deaths-of m (t ∷ ts) sound once may =
+pub length-dying : (m : EntityMap) (ts : List Tag) → IsSound m → NoRepeats ts → AllByRecursion (λ t. (c : Class) × (class_at (shape_of m) t ≡ Some c) × (c ≢ class.Attr)) ts → length (dying (shape_of m) ts) ≡ length ts + length (all_attributes m ts)
+length-dying m [] sound once may =
+    length-map {B = Tag} (filter (dies_with []) (shape_of m)) (λ x. x.0) ∙ length-filter (dies_with []) (shape_of m) ∙ sum-nothing (λ x. one_if (dies_with [] x)) (shape_of m) (well-shape m sound).written.ascends (λ t x e. none_dies (t, x))
+length-dying m (t ∷ ts) sound once may =
     let S : Shape = shape_of m in
     let sorted = (well-shape m sound).written.ascends in
     let split : sum_by (λ x. one_if (dies_with (t ∷ ts) x)) S ≡ sum_by (λ (x : Tag × Item). one_if (same_tag x.0 t)) S + sum_by (λ (x : Tag × Item). one_if (is_on t x.1)) S + sum_by (λ x. one_if (dies_with ts x)) S =
     sum-alike (λ x. one_if (dies_with (t ∷ ts) x)) (λ x. one_if (same_tag x.0 t) + one_if (is_on t x.1) + one_if (dies_with ts x)) S sorted (λ u x e. dies_once S t ts once may u x e)
     ∙ three_sums (λ x. one_if (same_tag x.0 t)) (λ x. one_if (is_on t x.1)) (λ x. one_if (dies_with ts x)) S in
-    let rest : deaths S ts ≡ length ts + length (all_attributes m ts) = deaths-of m ts sound once.1 may.1 in
+    let rest : length (dying S ts) ≡ length ts + length (all_attributes m ts) = length-dying m ts sound once.1 may.1 in
     omega (
       arith,
       split,
       rest,
       one_there S t may.0.0 sorted may.0.1,
       length-attributes m t,
+      length-map {B = Tag} (filter (dies_with (t ∷ ts)) S) (λ x. x.0),
       length-filter (dies_with (t ∷ ts)) S,
+      length-map {B = Tag} (filter (dies_with ts) S) (λ x. x.0),
       length-filter (dies_with ts) S,
       length-append (attributes_on m t) (all_attributes m ts),
     )
+
+-- ---- what is among those that die
+
+-- what is killed
+pub dying-itself : (S : Shape) (ts : List Tag) (t : Tag) (x : Item) → item_at S t ≡ Some x → Contains ts t → Contains (dying S ts) t
+dying-itself S ts t x is k =
+    Contains-map (λ (y : Tag × Item). y.0) (filter (dies_with ts) S) (t, x)
+    (Contains-filter (dies_with ts) S (t, x) (item-among S t x is) (or_left (is_among t ts) (is_attribute_of ts x) (is_among-in t ts k)))
+
+-- an attribute of that
+pub dying-attribute : (m : EntityMap) (ts : List Tag) (o t : Tag) (name : Name) (value : ℤ) → Contains ts o → get m t ≡ Some (entity.Attr o name value) → Contains (dying (shape_of m) ts) t
+dying-attribute m ts o t name value k is =
+    let S : Shape = shape_of m in
+    let x : Item = Attr o name value in
+    let there : item_at S t ≡ Some x = item-mapped m t ∙ ap (option_map (item_of (entries m))) is in
+    Contains-map (λ (y : Tag × Item). y.0) (filter (dies_with ts) S) (t, x)
+    (Contains-filter (dies_with ts) S (t, x) (item-among S t x there) (or_right (is_among t ts) (is_among o ts) (is_among-in o ts k)))

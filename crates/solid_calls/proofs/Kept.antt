@@ -5,11 +5,10 @@ use Rattle.pk_base.specs.declared.call.Call.{Call}
 use Rattle.entity_store.specs.Store.{StoreView, Stored}
 use Rattle.solid_model.specs.Items.{Shape}
 use Rattle.solid_model.specs.Links.{links}
-use Rattle.solid_model.specs.Rows.{Row}
+use Rattle.solid_model.specs.Rows.{Row, cost_of}
 use Rattle.solid_model.specs.Rows.Effect.{Makes, Changes, Tells}
 use Rattle.solid_model.specs.Shapes.{shape_of}
 use Rattle.solid_model.specs.Sound.{IsSound}
-use Rattle.solid_model.specs.Euler.{cost_of}
 use Rattle.solid_sound.proofs.rows.RowKeeps.{IsWell, Keeps, sound-links, well-shape}
 use Rattle.solid_calls.specs.Pairs.{reached, row_on}
 

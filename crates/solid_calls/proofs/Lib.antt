@@ -1,8 +1,6 @@
 pub mod NextTags
-pub mod LinkedRings
 pub mod Represented
 pub mod Reached
-pub mod Room
 pub mod Deaths
 pub mod Sizes
 pub mod Kept

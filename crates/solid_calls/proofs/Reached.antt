@@ -12,7 +12,7 @@ use Rattle.list_facts.proofs.Each.{ByRecursion-at}
 use Rattle.solid_model.specs.Items.{Item, Shape, item_at, ◌with◌}
 use Rattle.solid_model.specs.Deaths.{dies_with, ◌without◌}
 use Rattle.solid_model.specs.Links.{links}
-use Rattle.solid_sound.proofs.lists.Neighbours.{NoneOf}
+use Rattle.pk_model.proofs.TagLists.{NoneOf}
 use Rattle.solid_sound.proofs.shapes.Found.{none_or_some}
 use Rattle.solid_sound.proofs.shapes.Lookups.{Items, tags_in, with-sorted, with-other, with-written, is_written, filter-kept, filter-was}
 use Rattle.solid_sound.proofs.rows.RowKeeps.{IsWell}

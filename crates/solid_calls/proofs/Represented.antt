@@ -24,8 +24,9 @@ use Rattle.solid_model.specs.Places.{fins_at}
 use Rattle.solid_model.specs.Links.{is_fin_of, fin_of_edge, entity_of, links}
 use Rattle.solid_model.specs.Shapes.{shape_of}
 use Rattle.solid_model.specs.Sound.{IsSound, fins_with_edge}
-use Rattle.solid_sound.proofs.lists.Neighbours.{both_parts, same_itself, same_means}
-use Rattle.solid_sound.proofs.shapes.Found.{none_or_some, same_or_other, find-some, find-none, among-item, item-among}
+use Rattle.solid_model.proofs.lists.Neighbours.{both_parts}
+use Rattle.pk_base.proofs.Same.{same_itself, same_means, same_or_other}
+use Rattle.solid_sound.proofs.shapes.Found.{none_or_some, find-some, find-none, among-item, item-among}
 use Rattle.solid_sound.proofs.shapes.Reading.{fin_in, fins-once, loop-of_fin}
 use Rattle.solid_sound.proofs.shapes.FinRings.{ring_with, ring_owner, ring_fins}
 use Rattle.solid_sound.proofs.edges.EdgeDeaths.{edge-other}
@@ -33,8 +34,8 @@ use Rattle.solid_sound.proofs.rows.RowKeeps.{IsWell, well-shape}
 use Rattle.solid_sound.proofs.shapes.OnlyShape.{shape-read}
 use Rattle.solid_sound.proofs.rows.Asked.{get-links}
 use Rattle.list_facts.proofs.Each.{ByRecursion-contains, ByRecursion-at}
-use Rattle.solid_calls.specs.LinkedRings.{as_fin, next_at, prev_at, loop_named, IsRing, IsInRing, ring_at}
-use Rattle.solid_calls.proofs.LinkedRings.{ring_at-is, in-ring_from, ring-written, ring-kept, ring-links, links-ring}
+use Rattle.halfedge.specs.LinkedRings.{as_fin, next_at, prev_at, loop_named, IsRing, IsInRing, ring_at}
+use Rattle.halfedge.proofs.LinkedRings.{ring_at-is, in-ring_from, ring-written, ring-kept, ring-links, links-ring}
 
 -- ---- what is shown
 

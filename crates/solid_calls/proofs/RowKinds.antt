@@ -10,7 +10,7 @@ use Rattle.pk_base.specs.declared.refusal.Refusal.TheVariants.{NotOneLoop, SameV
 use Rattle.pk_model.specs.Step.{◌>>=◌}
 use Rattle.solid_model.specs.Items.{Item, Shape}
 use Rattle.solid_model.specs.Items.Item.{Attr}
-use Rattle.solid_model.specs.Rows.{Row, ◌>>◌, refuse_where}
+use Rattle.solid_model.specs.Rows.{Row, ◌>>◌, refuse_where, cost_of}
 use Rattle.solid_model.specs.Rows.Effect.{Makes, Changes, Tells}
 use Rattle.solid_model.specs.Ranges.{is_coordinate, numbers_of, refuse_outside}
 use Rattle.solid_model.specs.Rings.{next_in}
@@ -30,7 +30,6 @@ use Rattle.solid_model.specs.Kfmrh.{kfmrh}
 use Rattle.solid_model.specs.RingMove.{ringmove}
 use Rattle.solid_model.specs.SetAttr.{set_attribute, set_in}
 use Rattle.solid_model.specs.DropAttr.{drop_attribute, dropped}
-use Rattle.solid_model.specs.Euler.{cost_of}
 
 -- where it is not refused, it takes so many tags
 abbrev pub IsMaking : ℕ → Row → Type 0

@@ -25,13 +25,13 @@ use Rattle.solid_model.specs.Owners.{body_of, number_in_body, same_class}
 use Rattle.solid_model.specs.Rings.{neighbours}
 use Rattle.solid_model.specs.Shapes.{item_of, shape_of}
 use Rattle.solid_model.specs.Sound.{IsSound}
-use Rattle.solid_sound.proofs.lists.Neighbours.{head_or, neighbour_of, parts, below}
+use Rattle.solid_model.proofs.lists.Neighbours.{head_or, neighbour_of, parts, below}
 use Rattle.solid_sound.proofs.rows.RowKeeps.{well-shape}
 use Rattle.list_facts.proofs.Each.{ByRecursion-weaker, ByRecursion-contains, ByRecursion-at, ByRecursion-left}
 use Rattle.pk_model.proofs.Keys.{keys_contain, TagsAscend-keys}
 use Rattle.solid_calls.specs.Attributes.{attributes_on, is_attribute_on}
-use Rattle.solid_calls.specs.LinkedRings.{AreLinked, FinFields, IsRing, as_fin}
-use Rattle.solid_calls.proofs.Room.{no_more-different}
+use Rattle.halfedge.specs.LinkedRings.{AreLinked, FinFields, IsRing, as_fin}
+use Rattle.entity_store.proofs.Room.{no_more-different}
 
 -- ---- live tags
 

@@ -1,5 +1,3 @@
 -- In reading order.
-pub mod LinkedRings
 pub mod Attributes
-pub mod Room
 pub mod Pairs

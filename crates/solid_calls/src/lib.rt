@@ -1,6 +1,5 @@
-//! What the functions promise that carry the calls on solids out over a store: rings of linked
-//! fins, room to record what is put, and the two functions of each call (`specs/`, in the order of
-//! its `Lib.antt`).
+//! What the functions promise that carry the calls on solids out over a store: attributes, and the
+//! two functions of each call (`specs/`, in the order of its `Lib.antt`).
 #![tactic(auto)]
 
 pub use tags::take_tag;

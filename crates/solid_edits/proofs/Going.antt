@@ -6,15 +6,14 @@ use Rattle.pk_base.specs.declared.refusal.Refusal.{Refusal}
 use Rattle.pk_base.specs.declared.call.Call.{Call}
 use Rattle.pk_model.specs.Step.{◌>>=◌}
 use Rattle.entity_store.specs.Store.{StoreView}
-use Rattle.entity_store.specs.Recorder.{Records}
+use Rattle.entity_store.specs.Room.{PutsAmong}
 use Rattle.solid_calls.proofs.Kept.{done-sound}
 use Rattle.solid_sound.proofs.rows.RowKeeps.{Keeps}
-use Rattle.solid_model.specs.Euler.{cost_of}
+use Rattle.solid_model.specs.Rows.{cost_of, Row, refuse_where, ◌>>◌}
 use Rattle.solid_model.specs.Sound.{IsSound}
-use Rattle.solid_model.specs.Rows.{Row, refuse_where, ◌>>◌}
 use Rattle.solid_model.specs.Links.{links}
 use Rattle.solid_model.specs.Shapes.{shape_of}
-use Rattle.solid_model.specs.Room.{puts_of}
+use Rattle.solid_model.specs.Room.{tags_put}
 use Rattle.solid_calls.specs.Pairs.{HasDone, row_on, reached}
 
 -- a row that goes on after an operand was found
@@ -47,11 +46,11 @@ not_refused_twice false false d e row h = (refl, refl, refl)
 -- the map is that of the shape that the row reaches, and so is sound
 pub done : (old new : StoreView) (c : Call) (tags : List Tag) (row : Row) → row_on old.state.map c ≡ row → IsSound old.state.map → cost_of row ≤ length tags → Keeps tags (row_on old.state.map c)
     → new.state ≡ record old.state { map = links (reached (shape_of old.state.map) tags row) }
-    → Records (puts_of (shape_of old.state.map) c) old new → HasDone old c tags new
-done old new c tags row same sound enough keeps state records =
+    → PutsAmong (tags_put (shape_of old.state.map) c tags) old new → HasDone old c tags new
+done old new c tags row same sound enough keeps state puts =
     let reaches = state ∙ ap (λ (r : Row). record old.state { map = links (reached (shape_of old.state.map) tags r) }) (sym same) in
     record {
       state = reaches;
       sound = done-sound old new c tags sound (subst (λ r. cost_of r ≤ length tags) (sym same) enough) keeps reaches;
-      records = records;
+      puts = puts;
     }

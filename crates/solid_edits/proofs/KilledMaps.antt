@@ -18,9 +18,11 @@ use Rattle.solid_model.specs.Items.{Item, Shape}
 use Rattle.solid_model.specs.Items.Item.{Body, Shell, Face, Loop, Fin, Edge, Vertex, Attr}
 use Rattle.solid_model.specs.Deaths.{is_attribute_of}
 use Rattle.solid_model.specs.Rings.{first_tag}
-use Rattle.solid_sound.proofs.lists.Neighbours.{in-is_among, not_same, same_itself, same_means, NoneOf, among_or_none}
+use Rattle.solid_model.proofs.lists.Neighbours.{in-is_among, among_or_none}
+use Rattle.pk_base.proofs.Same.{not_same, same_itself, same_means}
+use Rattle.pk_model.proofs.TagLists.{NoneOf}
 use Rattle.solid_calls.specs.Attributes.{DropsAttributes, attributes_on, is_attribute_on, unless_on}
-use Rattle.solid_calls.specs.LinkedRings.{as_fin}
+use Rattle.halfedge.specs.LinkedRings.{as_fin}
 use Rattle.solid_calls.proofs.Represented.{Shows}
 use Rattle.list_facts.proofs.Elements.{not_in_nil, Contains-filter, filter_contains, Contains-first, Contains-later, Contains-cases, Contains-flat_map}
 use Rattle.list_facts.proofs.Each.{ByRecursion-append, ByRecursion-weaker, ByRecursion-at, ByRecursion-left, ByRecursion-right}

@@ -4,7 +4,7 @@ use Rattle.std.specs.Prelude.{is_some}
 use Rattle.pk_base.specs.declared.tag.Tag.{Tag}
 use Rattle.pk_base.specs.declared.entity.Entity.TheVariants as entity
 use Rattle.solid_model.specs.Rings.{first_tag, from_least, least_of, written_from}
-use Rattle.solid_sound.proofs.lists.Cycles.{least, written-first}
+use Rattle.solid_model.proofs.lists.Cycles.{least, written-first}
 use Rattle.solid_sound.proofs.shapes.FinRings.{lone_for}
 use Rattle.solid_edits.specs.EditedLoops.{loop_from}
 

@@ -11,7 +11,7 @@ use Rattle.pk_model.specs.Tags.{owns}
 use Rattle.list_facts.proofs.Each.{ByRecursion-at}
 use Rattle.entity_store.specs.Store.{StoreView}
 use Rattle.solid_calls.specs.Attributes.{attributes_on}
-use Rattle.solid_calls.specs.Room.{HasRoomForThese, PutsAmong}
+use Rattle.entity_store.specs.Room.{HasRoomForThese, PutsAmong}
 use Rattle.solid_edits.specs.Deaths.{Dies, Kills, with_attributes}
 use Rattle.solid_edits.proofs.KilledMaps.{death-among, kills-attribute, kills-one, kills-then}
 use Rattle.solid_edits.proofs.Stages.{IsStage, stage-none, stage-owns, stage-room, stage-then}

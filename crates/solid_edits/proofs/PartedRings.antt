@@ -10,15 +10,16 @@ use Rattle.pk_base.specs.declared.entity.Entity.{Entity}
 use Rattle.pk_model.specs.Apart.{NoRepeats}
 use Rattle.pk_model.specs.Maps.{EntityMap}
 use Rattle.list_facts.proofs.Each.{ByRecursion-at}
-use Rattle.solid_model.specs.Rings.{before, first_tag, from, next_in}
-use Rattle.solid_sound.proofs.lists.Neighbours.{before-from, head_or, not_same, same_itself}
-use Rattle.solid_sound.proofs.lists.Cycles.{CutAt, cut-at}
+use Rattle.solid_model.specs.Rings.{before, first_tag, from, next_in, ends_of}
+use Rattle.solid_model.proofs.lists.Neighbours.{before-from, head_or}
+use Rattle.pk_base.proofs.Same.{not_same, same_itself}
+use Rattle.solid_model.proofs.lists.Cycles.{CutAt, cut-at}
 use Rattle.solid_sound.proofs.rows.Progress.{in_drop}
-use Rattle.solid_sound.proofs.shapes.Reading.{next_in-parts, not_before}
-use Rattle.solid_calls.specs.LinkedRings.{FinFields, IsInRing, IsRing, as_fin, ends_of, next_at, ring_at, ring_of_any}
+use Rattle.solid_model.proofs.Reading.{next_in-parts, not_before}
+use Rattle.halfedge.specs.LinkedRings.{FinFields, IsInRing, IsRing, as_fin, next_at, ring_at, ring_of_any}
 use Rattle.list_facts.proofs.Elements.{not_in_nil, Contains-first, Contains-later, Contains-cases}
 use Rattle.solid_edits.specs.EditedLoops.{fins_behind, fins_between, other_than}
-use Rattle.solid_calls.proofs.LinkedRings.{in-ring_from, in-ring_starts, ring-links, ring_at-is}
+use Rattle.halfedge.proofs.LinkedRings.{in-ring_from, in-ring_starts, ring-links, ring_at-is}
 use Rattle.solid_edits.proofs.EditedMaps.{ends-among}
 use Rattle.solid_edits.proofs.Stages.{Within}
 

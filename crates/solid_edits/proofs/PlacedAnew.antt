@@ -10,9 +10,10 @@ use Rattle.pk_base.specs.declared.entity.Entity.{Entity}
 use Rattle.pk_base.specs.declared.entity.Entity.TheVariants as entity
 use Rattle.pk_model.specs.Maps.{EntityMap}
 use Rattle.list_facts.proofs.Each.{ByRecursion-at}
-use Rattle.solid_calls.specs.LinkedRings.{FinFields, IsRing, Relabels, Relinks, as_fin, in_loop, loop_named, next_at, prev_at, unlinked}
-use Rattle.solid_calls.proofs.LinkedRings.{ring-links}
-use Rattle.solid_sound.proofs.lists.Neighbours.{NoneOf, among_or_none}
+use Rattle.halfedge.specs.LinkedRings.{FinFields, IsRing, Relabels, Relinks, as_fin, in_loop, loop_named, next_at, prev_at, unlinked}
+use Rattle.halfedge.proofs.LinkedRings.{ring-links}
+use Rattle.pk_model.proofs.TagLists.{NoneOf}
+use Rattle.solid_model.proofs.lists.Neighbours.{among_or_none}
 
 -- a fin without its links and its loop, any other entity as it is
 abbrev pub unplaced : Entity → Entity
@@ -69,6 +70,10 @@ named-unlinked (Some (entity.Loop face first vertex)) = refl
 named-unlinked (Some (entity.Edge body fin)) = refl
 named-unlinked (Some (entity.Vertex body point)) = refl
 named-unlinked (Some (entity.Attr owner name value)) = refl
+
+-- a fin names its loop
+pub named-by_fin : (m : EntityMap) (t l next prev mate edge vertex : Tag) → get m t ≡ Some (entity.Fin l next prev mate edge vertex) → loop_named m t ≡ Some l
+named-by_fin m t l next prev mate edge vertex h = ap named_by h
 
 -- each fin names its loop as before
 pub relinks-named : (m n : EntityMap) (before after : List (List Tag)) → Relinks m before n after → (t : Tag) → loop_named n t ≡ loop_named m t

@@ -9,8 +9,8 @@ use Rattle.solid_model.specs.Items.Item.{Loop, Fin}
 use Rattle.solid_model.specs.Owners.{fins_of}
 use Rattle.solid_model.specs.Places.{End, PlacedFin}
 use Rattle.solid_model.specs.Sound.{class_at}
-use Rattle.solid_calls.specs.LinkedRings.{loop_named, ring_at}
-use Rattle.solid_sound.proofs.lists.Turned.{turned-in, turned-back}
+use Rattle.halfedge.specs.LinkedRings.{loop_named, ring_at}
+use Rattle.solid_model.proofs.lists.Turned.{turned-in, turned-back}
 use Rattle.solid_sound.proofs.shapes.Edits.{class_apart}
 use Rattle.solid_sound.proofs.edges.Ends.{EndIn, FinIn}
 use Rattle.solid_sound.proofs.shapes.Reading.{fin_in, loop-of_fin}

@@ -5,7 +5,7 @@ use Rattle.std.specs.List.{AllByRecursion}
 use Rattle.std.proofs.lemmas.List.Elements.{Contains-append_left, Contains-append_right, Contains-append_cases}
 use Rattle.pk_base.specs.declared.tag.Tag.{Tag}
 use Rattle.list_facts.proofs.Each.{ByRecursion-at}
-use Rattle.solid_calls.specs.LinkedRings.{ends_of}
+use Rattle.solid_model.specs.Rings.{ends_of}
 use Rattle.solid_edits.proofs.EditedMaps.{ends-among}
 
 -- each of these is among those

@@ -9,8 +9,8 @@ use Rattle.pk_model.specs.Tags.{owns}
 use Rattle.entity_store.specs.Recorder.{began}
 use Rattle.entity_store.specs.Recording.{HasRoomFor, recorded_put}
 use Rattle.entity_store.specs.Store.{Stored, StoreView}
-use Rattle.solid_calls.specs.Room.{HasRoomForThese, PutsAmong}
-use Rattle.solid_calls.proofs.Room.{puts-none, puts-one, puts-then, puts-wider, room-after, room-for_one, room-part}
+use Rattle.entity_store.specs.Room.{HasRoomForThese, PutsAmong}
+use Rattle.entity_store.proofs.Room.{puts-none, puts-one, puts-then, puts-wider, room-after, room-for_one, room-part}
 
 -- each of these is one of those
 abbrev pub Within : List Tag → List Tag → Type 0

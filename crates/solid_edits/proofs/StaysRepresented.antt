@@ -12,8 +12,8 @@ use Rattle.solid_model.specs.Rings.{first_tag}
 use Rattle.solid_model.specs.Owners.{fins_of}
 use Rattle.solid_sound.proofs.shapes.Reading.{fin_in}
 use Rattle.solid_sound.proofs.rows.RowKeeps.{IsWell}
-use Rattle.solid_calls.specs.LinkedRings.{FinFields, as_fin, loop_named}
-use Rattle.solid_calls.proofs.LinkedRings.{ring-kept}
+use Rattle.halfedge.specs.LinkedRings.{FinFields, as_fin, loop_named}
+use Rattle.halfedge.proofs.LinkedRings.{ring-kept}
 use Rattle.solid_calls.proofs.Represented.{Shows, Represents, shows-kept}
 use Rattle.list_facts.proofs.Each.{ByRecursion-contains, ByRecursion-at}
 use Rattle.solid_sound.proofs.shapes.Bodies.{loop_by_item}

@@ -1,5 +1,5 @@
 -- The map of a shape in which items were written and items were killed.
-use Rattle.std.proofs.Common.{◌≡◌, ⊎_elim, not, List, [], Option, Some, None, refl, sym, ap, subst, ◌∙◌}
+use Rattle.std.proofs.Common.{◌≡◌, ⊎_elim, not, List, [], ◌∷◌, Option, Some, None, refl, sym, ap, subst, ◌∙◌}
 use Rattle.std.specs.Prelude.{Contains}
 use Rattle.std.specs.List.{AllByRecursion}
 use Rattle.std.specs.FinMap.{get}
@@ -8,20 +8,23 @@ use Rattle.pk_base.specs.declared.entity.Entity.{Entity}
 use Rattle.pk_base.specs.declared.entity.Entity.TheVariants as entity
 use Rattle.pk_model.specs.Apart.{NoRepeats}
 use Rattle.pk_model.specs.Maps.{EntityMap}
-use Rattle.list_facts.proofs.Each.{ByRecursion-at}
+use Rattle.list_facts.proofs.Each.{ByRecursion-at, ByRecursion-contains}
 use Rattle.solid_model.specs.Items.{Item, Shape, item_at, class_of_item, ◌with◌}
 use Rattle.solid_model.specs.Items.Item.{Body, Shell, Face, Loop, Fin, Edge, Vertex, Attr}
-use Rattle.solid_model.specs.Rings.{is_among}
+use Rattle.solid_model.specs.Rings.{first_tag, from_least, is_among, ring_of}
 use Rattle.solid_model.specs.Owners.{fins_of}
 use Rattle.solid_model.specs.Deaths.{dies_with, ◌without◌}
-use Rattle.solid_sound.proofs.lists.Neighbours.{neither_from, NoneOf, is-none, among_or_none}
+use Rattle.solid_model.proofs.lists.Neighbours.{neither_from, is-none, among_or_none}
+use Rattle.pk_model.proofs.TagLists.{NoneOf}
+use Rattle.solid_model.proofs.lists.Cycles.{least-in}
 use Rattle.solid_sound.proofs.shapes.Edits.{Edits, edits}
 use Rattle.solid_sound.proofs.shapes.Found.{none_or_some}
 use Rattle.solid_sound.proofs.shapes.Lookups.{Items, filter-kept, is_written, tags_in, with-other}
 use Rattle.solid_sound.proofs.shapes.Names.{NotAttr}
 use Rattle.solid_sound.proofs.shapes.Reading.{fin_in}
 use Rattle.solid_sound.proofs.rows.RowKeeps.{IsWell}
-use Rattle.solid_calls.specs.LinkedRings.{as_fin}
+use Rattle.halfedge.specs.LinkedRings.{IsRing, as_fin, loop_named}
+use Rattle.halfedge.proofs.LinkedRings.{ring-least}
 use Rattle.list_facts.proofs.Elements.{not_in_nil}
 use Rattle.solid_edits.specs.Deaths.{Kills, unless_on_any}
 use Rattle.solid_calls.proofs.Represented.{Represents, Shows, shows-kept}
@@ -128,3 +131,37 @@ module _ (S : Shape) (m n r : EntityMap) (xs : Items) (killed : List Tag) (well 
         (ed.was t x is);
     nothing = gone;
   }
+
+-- ---- where nothing dies
+
+without-none : (S : Shape) → S without [] ≡ S
+without-none [] = refl
+without-none ((t, Body shell) ∷ S) = ap (λ T. (t, Body shell) ∷ T) (without-none S)
+without-none ((t, Shell body q) ∷ S) = ap (λ T. (t, Shell body q) ∷ T) (without-none S)
+without-none ((t, Face shell outer) ∷ S) = ap (λ T. (t, Face shell outer) ∷ T) (without-none S)
+without-none ((t, Loop face fins vertex) ∷ S) = ap (λ T. (t, Loop face fins vertex) ∷ T) (without-none S)
+without-none ((t, Fin mate edge vertex) ∷ S) = ap (λ T. (t, Fin mate edge vertex) ∷ T) (without-none S)
+without-none ((t, Edge body) ∷ S) = ap (λ T. (t, Edge body) ∷ T) (without-none S)
+without-none ((t, Vertex body point) ∷ S) = ap (λ T. (t, Vertex body point) ∷ T) (without-none S)
+without-none ((t, Attr owner name value) ∷ S) = ap (λ T. (t, Attr owner name value) ∷ T) (without-none S)
+
+-- From the map m of the shape S, n has the items xs written, and differs elsewhere only in where fins stand. The fins of
+-- each loop that was not written stay as they are, and no fin that was is written.
+pub written : (S : Shape) (m n : EntityMap) (xs : Items) → IsWell S → Represents S m → NoRepeats (tags_in xs) → AllByRecursion (λ x. NotAttr (class_of_item x.1)) xs
+    → ((t : Tag) → NoneOf t (tags_in xs) → IsSameElsewhere m n t)
+    → ((l face : Tag) (fins : List Tag) (vertex : Option Tag) → item_at S l ≡ Some (Loop face fins vertex) → NoneOf l (tags_in xs) → (f : Tag) → Contains fins f → get n f ≡ get m f)
+    → ((f mate edge vertex : Tag) → item_at S f ≡ Some (Fin mate edge vertex) → NoneOf f (tags_in xs))
+    → ((t : Tag) (x : Item) → Contains xs (t, x) → Shows (S with xs) n t x) → Represents (S with xs) n
+written S m n xs well was once plain elsewhere loops edges shown =
+    let same : S with xs without [] ≡ S with xs = without-none (S with xs) in
+    subst (λ T. Represents T n) same
+    (edited S m n n xs [] well was once tt tt plain (record { dead = tt; others = λ t h. refl }) elsewhere
+    (λ l face fins vertex is none live f k. (tt, loops l face fins vertex is none f k))
+    (λ f mate edge vertex is live. (edges f mate edge vertex is, tt))
+    (subst (λ T. (t : Tag) (x : Item) → Contains xs (t, x) → Shows T n t x) (sym same) shown))
+
+-- a loop that is put with the fins of a ring, which name it, is shown
+pub ring-shown : (R : Shape) (n : EntityMap) (l face : Tag) (fins : List Tag) → get n l ≡ Some (entity.Loop face (first_tag (from_least fins)) None) → IsRing n fins
+    → ((t : Tag) → Contains fins t → loop_named n t ≡ Some l) → Shows R n l (ring_of face fins)
+ring-shown R n l face fins is ring named =
+    (is, ring-least n fins ring, ByRecursion-contains (λ t. loop_named n t ≡ Some l) (from_least fins) (λ t k. named t (least-in t fins k)))

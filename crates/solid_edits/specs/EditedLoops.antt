@@ -6,7 +6,7 @@ use Rattle.pk_base.specs.declared.entity.Entity.{Entity}
 use Rattle.pk_base.specs.declared.entity.Entity.TheVariants as entity
 use Rattle.pk_model.specs.Maps.{EntityMap}
 use Rattle.solid_model.specs.Rings.{before, first_tag, from, from_least}
-use Rattle.solid_calls.specs.LinkedRings.{Relabels, Relinks, ring_at}
+use Rattle.halfedge.specs.LinkedRings.{Relabels, Relinks, ring_at}
 
 -- ---- loops
 

@@ -3,7 +3,7 @@ ghost use Rattle.std.specs.Prelude.{◌≡◌, ◌≤◌, ◌*◌, ◌∷◌, le
 ghost use Rattle.std.specs.List.{AllByRecursion};
 ghost use Rattle.pk_model.specs.Tags.{owns};
 ghost use Rattle.solid_calls.specs.Attributes.{attributes_on};
-ghost use Rattle.solid_calls.specs.Room.{HasRoomForThese, PutsAmong};
+ghost use Rattle.entity_store.specs.Room.{HasRoomForThese, PutsAmong};
 ghost use Rattle.solid_edits.specs.Deaths.{Dies, Kills, with_attributes};
 
 use attributes::{count_attributes, drop_all};

@@ -4,7 +4,7 @@ ghost use Rattle.std.specs.FinMap.{get};
 ghost use Rattle.pk_model.specs.Tags.{owns};
 ghost use Rattle.pk_model.specs.Maps.{with_entity};
 ghost use Rattle.entity_store.specs.Recording.{HasRoomFor};
-ghost use Rattle.solid_calls.specs.Room.{PutsAmong};
+ghost use Rattle.entity_store.specs.Room.{PutsAmong};
 ghost use Rattle.solid_edits.specs.Faces.{IsLoop, IsShell, of_face, with_more};
 
 use entity_store::{Recorder, Steps};

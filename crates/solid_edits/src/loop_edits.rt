@@ -2,8 +2,8 @@
 ghost use Rattle.std.specs.Prelude.{◌≡◌, ◌∷◌, [], IfSome, IsTrue, Contains};
 ghost use Rattle.pk_model.specs.Tags.{owns};
 ghost use Rattle.solid_model.specs.Rings.{first_tag, from_least};
-ghost use Rattle.solid_calls.specs.LinkedRings.{IsInRing, Relabels, ring_of_any};
-ghost use Rattle.solid_calls.specs.Room.{HasRoomForThese, PutsAmong};
+ghost use Rattle.halfedge.specs.LinkedRings.{IsInRing, Relabels, ring_of_any};
+ghost use Rattle.entity_store.specs.Room.{HasRoomForThese, PutsAmong};
 ghost use Rattle.solid_edits.specs.EditedLoops.{loop_from as the_loop_from};
 
 use entity_store::{Recorder, Steps};

@@ -5,8 +5,8 @@ ghost use Rattle.pk_model.specs.Maps.{with_entity};
 ghost use Rattle.pk_model.specs.Tags.{owns};
 ghost use Rattle.entity_store.specs.Recording.{HasRoomFor};
 ghost use Rattle.solid_model.specs.Rings.{first_tag, from_least};
-ghost use Rattle.solid_calls.specs.LinkedRings.{IsInRing, ring_at};
-ghost use Rattle.solid_calls.specs.Room.{PutsAmong};
+ghost use Rattle.halfedge.specs.LinkedRings.{IsInRing, ring_at};
+ghost use Rattle.entity_store.specs.Room.{PutsAmong};
 
 use entity_store::{Recorder, Steps};
 use halfedge::least_fin;

@@ -18,7 +18,8 @@ use Rattle.solid_model.specs.Links.{links}
 use Rattle.solid_model.specs.Sound.{IsSound, IsSoundShape, ComesAfter}
 use Rattle.solid_model.proofs.Written.{is_read, shape_of-read}
 use Rattle.solid_sound.proofs.shapes.OnlyShape.{shape-read}
-use Rattle.solid_sound.proofs.lists.Neighbours.{same_means, alone_in_ring}
+use Rattle.pk_base.proofs.Same.{same_means}
+use Rattle.solid_model.proofs.lists.Neighbours.{alone_in_ring}
 use Rattle.list_facts.proofs.Elements.{not_in_nil, Contains-cases, Contains-only}
 use Rattle.list_facts.proofs.Each.{ByRecursion-at}
 use Rattle.solid_laws.specs.Unsound.{mate_not_mutual, edge_at_one_vertex, outer_of_another, one_name_twice, two_cycles}

@@ -15,12 +15,12 @@ use Rattle.pk_model.specs.Modelling.{Modelling, Outcome}
 use Rattle.pk_model.specs.Step.{◌>>=◌, Stepped, step, with_answer, call_reaches, blocks_short}
 use Rattle.pk_model.specs.Replay.{AnsweredEntry, answered_entries_from}
 use Rattle.solid_model.specs.Items.{Shape}
-use Rattle.solid_model.specs.Rows.{Row}
+use Rattle.solid_model.specs.Rows.{Row, cost_of}
 use Rattle.solid_model.specs.Rows.Effect.{Makes, Changes, Tells}
 use Rattle.solid_model.specs.Links.{links}
 use Rattle.solid_model.specs.Shapes.{shape_of}
 use Rattle.solid_model.specs.Calls.{row_of}
-use Rattle.solid_model.specs.Euler.{euler, cost_of, step_by}
+use Rattle.solid_model.specs.Euler.{euler, step_by}
 use Rattle.solid_model.proofs.Written.{is_read, shape_of-read, links-nothing}
 use Rattle.solid_laws.specs.WorkedCalls.{Line, Answer, entry_of, answers}
 use Rattle.solid_laws.specs.WorkedCalls.Line.{Does, Draws}

@@ -5,4 +5,5 @@ pub mod WorkedRings
 pub mod WorkedBlocks
 pub mod WorkedPolygons
 pub mod BlockForm
+pub mod WorkedRoom
 pub mod Unsound

@@ -5,7 +5,7 @@
 pub use sound::what_is_not_sound;
 pub use worked::{
     worked_block, worked_hole, worked_largest_prism, worked_limits, worked_plate, worked_queries,
-    worked_rings, worked_triangle,
+    worked_rings, worked_room, worked_triangle,
 };
 
 mod sound;

@@ -7,7 +7,7 @@ use Rattle.pk_base.specs.declared.act.Reply.TheVariants.{Made, Done, Is, List as
 use Rattle.pk_base.specs.declared.refusal.Refusal.{Refusal}
 use Rattle.pk_model.specs.Maps.{EntityMap}
 use Rattle.pk_model.specs.Modelling.{Modelling, Outcome}
-use Rattle.solid_model.specs.Rows.{Row, Effect}
+use Rattle.solid_model.specs.Rows.{Row, Effect, cost_of}
 use Rattle.solid_model.specs.Rows.Effect.{Makes, Changes, Tells}
 use Rattle.solid_model.specs.Links.{links}
 use Rattle.solid_model.specs.Shapes.{shape_of}
@@ -25,13 +25,6 @@ outcome_of m tags (Tells reply) = record { map = m; reply = reply }
 abbrev pub step_by : EntityMap → List Tag → Row → Result Outcome Refusal
 step_by m tags (Ok effect) = Ok (outcome_of m tags effect)
 step_by m tags (Err e) = Err e
-
--- how many tags are taken
-abbrev pub cost_of : Row → ℕ
-cost_of (Ok (Makes k reaches)) = k
-cost_of (Ok (Changes reached)) = 0
-cost_of (Ok (Tells reply)) = 0
-cost_of (Err e) = 0
 
 abbrev pub length_of_reply : Reply → ℕ
 length_of_reply (Listed tags) = length tags

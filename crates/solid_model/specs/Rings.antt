@@ -45,6 +45,11 @@ abbrev pub last_of : Tag → List Tag → Tag
 last_of t [] = t
 last_of t (u ∷ us) = last_of u us
 
+-- the first and the last tag of a run; none where it is empty
+abbrev pub ends_of : List Tag → List Tag
+ends_of [] = []
+ends_of (t ∷ ts) = t ∷ last_of t ts ∷ []
+
 -- the neighbours of f in the cyclic list: of a list of one tag, itself
 abbrev pub next_in : List Tag → Tag → Tag
 next_in ring f = unwrap_or (first_tag (drop 1 (written_from f ring))) f

@@ -1,75 +1,117 @@
--- How many tags a call puts at most: the body that does it writes no more entities than these, and
--- takes room for them first.
-use Rattle.std.specs.Prelude.{ℕ, ◌+◌, ◌*◌, List, [], ◌∷◌, filter, length, Result, Ok, Err}
+-- The tags that a call may put: those that it takes, and those of what stands already that it may
+-- change or kill. The body that does it writes no others, and takes room for them first.
+use Rattle.std.specs.Prelude.{ℕ, ◌+◌, ◌&&◌, List, [], ◌∷◌, ◌++◌, map, filter, take, length, Result, Ok, Err}
+use Rattle.pk_base.specs.Entity.{same_tag}
 use Rattle.pk_base.specs.declared.tag.Tag.{Tag}
 use Rattle.pk_base.specs.declared.entity.Class.TheVariants as class
 use Rattle.pk_base.specs.declared.refusal.Refusal.{Refusal}
 use Rattle.pk_base.specs.declared.call.Call.{Call}
 use Rattle.pk_base.specs.declared.call.Call.TheVariants.{Mvfs, Mev, Mef, Mekr, Mfkrh, Kvfs, Kev, Kef, Kemr, Kfmrh, RingMove, Lamina, Block, Prism, Sweep, Move, Turn, Delete, SetAttr, DropAttr, Ask, Kids, Ring, Counts, Bodies}
-use Rattle.solid_model.specs.Items.{Shape}
+use Rattle.solid_model.specs.Items.{Shape, class_of_item}
+use Rattle.solid_model.specs.Rings.{ends_of, next_in, previous_in}
+use Rattle.solid_model.specs.Owners.{all_in_body, body_of, same_class}
 use Rattle.solid_model.specs.Deaths.{dies_with}
-use Rattle.solid_model.specs.Owners.{all_in_body, number_in_body}
-use Rattle.solid_model.specs.Places.{PlacedFin, fin_at, End, end_at, fins_at, outer_at, start_at}
+use Rattle.solid_model.specs.Rows.{cost_of}
+use Rattle.solid_model.specs.Places.{PlacedFace, PlacedFin, PlacedLoop, End, face_at, loop_at, fin_at, end_at, fins_at, start_at}
+use Rattle.solid_model.specs.Attributes.{attribute_named}
+use Rattle.solid_model.specs.Calls.{row_of}
+use Rattle.solid_model.specs.Sound.{optional}
 
--- how many items die with these: they themselves, and their attributes
-abbrev pub deaths : Shape → List Tag → ℕ
-deaths S killed = length (filter (dies_with killed) S)
+-- what dies with these: they themselves, and their attributes
+abbrev pub dying : Shape → List Tag → List Tag
+dying S killed = map (λ x. x.0) (filter (dies_with killed) S)
 
 -- none where the operand is refused
-abbrev pub if_found : {A : Type 0} → (A → ℕ) → Result A Refusal → ℕ
-if_found count (Ok a) = count a
-if_found count (Err e) = 0
+abbrev pub if_found : {A : Type 0} → (A → List Tag) → Result A Refusal → List Tag
+if_found tags (Ok a) = tags a
+if_found tags (Err e) = []
 
--- what is made, the loop, and its fins, which may all be given to the new loop
-abbrev pub puts_of_mef : PlacedFin → ℕ
-puts_of_mef u = 6 + length u.fins
+-- ---- what stands already, and is changed or killed
 
--- what is made, the loop that is kept, the one that dies with its attributes, and the fins of both
-abbrev pub puts_of_mekr : Shape → End → End → ℕ
-puts_of_mekr S u v = 4 + deaths S (v.loop_ ∷ []) + length u.fins + length v.fins
+-- mev: the loop, and the fins beside the new edge
+abbrev pub changed_by_mev : End → List Tag
+changed_by_mev u = u.loop_ ∷ ends_of u.fins
 
--- what dies, the loop, and the fins that were beside the edge
-abbrev pub puts_of_kev : Shape → Tag → PlacedFin → ℕ
-puts_of_kev S f u = deaths S (f ∷ u.mate ∷ u.edge ∷ start_at S u.mate ∷ []) + 3
+-- mef: the loop, and its fins, all of which may be given to the new loop
+abbrev pub changed_by_mef : PlacedFin → List Tag
+changed_by_mef u = u.loop_ ∷ u.fins
 
--- what dies, the loop that stays, and the fins of both
-abbrev pub puts_of_kef : Shape → Tag → PlacedFin → PlacedFin → ℕ
-puts_of_kef S x u v =
-    deaths S (u.loop_ ∷ u.face ∷ x ∷ u.mate ∷ u.edge ∷ []) + 1 + length u.fins + length v.fins
+-- mekr: the ring, which dies, the loop that is kept, its fins beside the new edge, and the fins of
+-- the ring
+abbrev pub changed_by_mekr : Shape → End → End → List Tag
+changed_by_mekr S u v = dying S (v.loop_ ∷ []) ++ u.loop_ ∷ ends_of u.fins ++ v.fins
 
--- what dies, both loops, and the fins
-abbrev pub puts_of_kemr : Shape → Tag → PlacedFin → ℕ
-puts_of_kemr S f u = deaths S (f ∷ u.mate ∷ u.edge ∷ []) + 2 + length u.fins
+-- mfkrh: the loop, and the shell
+abbrev pub changed_by_mfkrh : Tag → PlacedLoop → List Tag
+changed_by_mfkrh l r = l ∷ r.shell ∷ []
 
+-- kev: what dies, the loop, and its fins beside the edge
+abbrev pub changed_by_kev : Shape → Tag → PlacedFin → List Tag
+changed_by_kev S f u =
+    dying S (f ∷ u.mate ∷ u.edge ∷ start_at S u.mate ∷ [])
+    ++ u.loop_ ∷ next_in u.fins u.mate ∷ previous_in u.fins f ∷ []
+
+-- kef: what dies, the loop that stays, its fins beside the edge, and the fins of the other loop
+abbrev pub changed_by_kef : Shape → Tag → PlacedFin → PlacedFin → List Tag
+changed_by_kef S x u v =
+    dying S (u.loop_ ∷ u.face ∷ x ∷ u.mate ∷ u.edge ∷ [])
+    ++ v.loop_ ∷ next_in v.fins u.mate ∷ previous_in v.fins u.mate ∷ u.fins
+
+-- kemr: what dies, the loop, and its fins
+abbrev pub changed_by_kemr : Shape → Tag → PlacedFin → List Tag
+changed_by_kemr S f u = dying S (f ∷ u.mate ∷ u.edge ∷ []) ++ u.loop_ ∷ u.fins
+
+-- kfmrh: the face, which dies, its loop, and the shell
+abbrev pub changed_by_kfmrh : Shape → Tag → PlacedFace → List Tag
+changed_by_kfmrh S b kill = dying S (b ∷ []) ++ kill.outer ∷ kill.shell ∷ []
+
+-- sweep: the outer loop of the face, and its fins
+abbrev pub changed_by_sweep : Shape → PlacedFace → List Tag
+changed_by_sweep S face = face.outer ∷ fins_at S face.outer
+
+-- move and turn: the vertices of the body
+abbrev pub vertices_in_body : Shape → Tag → List Tag
+vertices_in_body S b =
+    map (λ x. x.0) (filter (λ x. same_class (class_of_item x.1) class.Vertex
+    && same_tag (body_of S x.0) b) S)
+
+-- the tags of what stands already that the call may change or kill
+abbrev pub tags_changed : Shape → Call → List Tag
+tags_changed S (Mvfs at) = []
+tags_changed S (Mev end at) = if_found changed_by_mev (end_at S end)
+tags_changed S (Mef start end) = if_found changed_by_mef (fin_at S start)
+tags_changed S (Mekr keep r) =
+    if_found (λ u. if_found (changed_by_mekr S u) (end_at S r)) (end_at S keep)
+tags_changed S (Mfkrh r) = if_found (changed_by_mfkrh r) (loop_at S r)
+tags_changed S (Kvfs body) = all_in_body S body
+tags_changed S (Kev fin) = if_found (changed_by_kev S fin) (fin_at S fin)
+tags_changed S (Kef fin) =
+    if_found (λ u. if_found (changed_by_kef S fin u) (fin_at S u.mate)) (fin_at S fin)
+tags_changed S (Kemr fin) = if_found (changed_by_kemr S fin) (fin_at S fin)
+tags_changed S (Kfmrh keep kill) = if_found (changed_by_kfmrh S kill) (face_at S kill)
+tags_changed S (RingMove r face) = if_found (λ placed. r ∷ []) (loop_at S r)
+tags_changed S (Lamina z corners) = []
+tags_changed S (Block at size) = []
+tags_changed S (Prism z h corners) = []
+tags_changed S (Sweep face by) = if_found (changed_by_sweep S) (face_at S face)
+tags_changed S (Move body by) = vertices_in_body S body
+tags_changed S (Turn body axis turns) = vertices_in_body S body
+tags_changed S (Delete body) = all_in_body S body
+-- the attribute that has the name, where there is one: else it is taken
+tags_changed S (SetAttr owner name value) = optional (attribute_named S owner name)
+tags_changed S (DropAttr owner name) = optional (attribute_named S owner name)
+tags_changed S (Ask t) = []
+tags_changed S (Kids t) = []
+tags_changed S (Ring r) = []
+tags_changed S (Counts body) = []
+tags_changed S Bodies = []
+
+-- ---- all that is put
+
+-- the tags that the call may put, with these next
+abbrev pub tags_put : Shape → Call → List Tag → List Tag
+tags_put S c tags = take (cost_of (row_of S c)) tags ++ tags_changed S c
+
+-- how many they are at most
 abbrev pub puts_of : Shape → Call → ℕ
-puts_of S (Mvfs at) = 5
--- what is made, the loop, and the fins beside the new edge
-puts_of S (Mev end at) = 7
-puts_of S (Mef start end) = if_found puts_of_mef (fin_at S start)
-puts_of S (Mekr keep r) =
-    if_found (λ u. if_found (puts_of_mekr S u) (end_at S r)) (end_at S keep)
--- the face, the loop, the shell
-puts_of S (Mfkrh r) = 3
-puts_of S (Kvfs body) = length (all_in_body S body)
-puts_of S (Kev fin) = if_found (puts_of_kev S fin) (fin_at S fin)
-puts_of S (Kef fin) =
-    if_found (λ u. if_found (puts_of_kef S fin u) (fin_at S u.mate)) (fin_at S fin)
-puts_of S (Kemr fin) = if_found (puts_of_kemr S fin) (fin_at S fin)
--- what dies, the loop, the shell
-puts_of S (Kfmrh keep kill) = deaths S (kill ∷ []) + 2
-puts_of S (RingMove r face) = 1
-puts_of S (Lamina z corners) = 4 * length corners + 6
-puts_of S (Block at size) = 58
-puts_of S (Prism z h corners) = 13 * length corners + 6
--- what is made, the loop, and its fins
-puts_of S (Sweep face by) = 10 * length (fins_at S (outer_at S face)) + 1
-puts_of S (Move body by) = number_in_body class.Vertex S body
-puts_of S (Turn body axis turns) = number_in_body class.Vertex S body
-puts_of S (Delete body) = length (all_in_body S body)
-puts_of S (SetAttr owner name value) = 1
-puts_of S (DropAttr owner name) = 1
-puts_of S (Ask t) = 0
-puts_of S (Kids t) = 0
-puts_of S (Ring r) = 0
-puts_of S (Counts body) = 0
-puts_of S Bodies = 0
+puts_of S c = cost_of (row_of S c) + length (tags_changed S c)

@@ -50,3 +50,10 @@ None >> r = r
 abbrev pub refuse_where : Bool → Refusal → Option Refusal
 refuse_where true e = Some e
 refuse_where false e = None
+
+-- how many tags the row takes
+abbrev pub cost_of : Row → ℕ
+cost_of (Ok (Makes k reaches)) = k
+cost_of (Ok (Changes reached)) = 0
+cost_of (Ok (Tells reply)) = 0
+cost_of (Err e) = 0

@@ -1,11 +1,11 @@
 -- The kids of an entity in a sound map, and the parts that the shape has of it.
 use Rattle.std.proofs.Common.{◌≡◌, ◌≢◌, ℕ, zero, suc, ◌+◌, ◌≤◌, zero-add, ⊎_elim, Bool, true, false, cond, List, [], ◌∷◌, length, Option, Some, None, refl, sym, ap, ◌∙◌, arith}
-use Rattle.std.specs.Prelude.{◌&&◌, map, filter, unwrap_or, if◌then◌else◌, IsPermutation}
+use Rattle.std.specs.Prelude.{nat_lt, ◌&&◌, map, filter, unwrap_or, if◌then◌else◌, IsPermutation}
 use Rattle.std.specs.Option.{option_and_then}
 use Rattle.std.specs.List.{AllByRecursion, count_by, cons_option, filter_map}
-use Rattle.std.specs.FinMap.{get, keys, entries, len, len-entries}
-use Rattle.std.proofs.lemmas.Bool.{cases_Bool, eqb-true}
-use Rattle.std.proofs.lemmas.List.Sorted.{length_permutation, sum_by-IsPermutation}
+use Rattle.std.specs.FinMap.{get, entries}
+use Rattle.std.proofs.lemmas.Bool.{cases_Bool, eqb-true, le-ltb, lt-ltb}
+use Rattle.std.proofs.lemmas.List.Sorted.{sum_by-IsPermutation}
 use Rattle.std.proofs.lemmas.List.Sums.{length-filter, sum_by-cons}
 use Rattle.pk_base.specs.Blocks.{tag}
 use Rattle.pk_base.specs.Entity.{class_of, owner_of, same_optional}
@@ -24,7 +24,6 @@ use Rattle.solid_model.specs.Sound.{IsSound}
 use Rattle.solid_sound.proofs.shapes.Bodies.{loop_with-some}
 use Rattle.solid_sound.proofs.shapes.Reading.{each-found}
 use Rattle.solid_sound.proofs.rows.RowKeeps.{IsWell, well-shape}
-use Rattle.list_facts.proofs.Lengths.{length-filter_map}
 use Rattle.solid_places.proofs.Read.{entity-of}
 
 -- ---- one of them
@@ -148,43 +147,37 @@ kids-counted m s c o =
 -- the kids of the class that were counted and those that are left are all
 pub record Walk (c : Class) (all : List (Tag × Entity)) (count : ℕ) (left : List (Tag × Entity)) : Type 0 where
   pub sum : count + count_by (λ (k : Tag × Entity). same_class (class_of k.1) c) left ≡ count_by (λ (k : Tag × Entity). same_class (class_of k.1) c) all
-  pub few : count + length left ≤ length all
 
 pub walk-begins : (c : Class) (all left : List (Tag × Entity)) → IsPermutation all left → Walk c all 0 left
 walk-begins c all left h =
-    record {
-      sum = zero-add (count_by (λ (k : Tag × Entity). same_class (class_of k.1) c) left) ∙ sum_by-IsPermutation (λ (k : Tag × Entity). cond (same_class (class_of k.1) c) 1 0) all left h;
-      few = omega (arith, length_permutation all left h);
-    }
+    record { sum = zero-add (count_by (λ (k : Tag × Entity). same_class (class_of k.1) c) left) ∙ sum_by-IsPermutation (λ (k : Tag × Entity). cond (same_class (class_of k.1) c) 1 0) all left h }
 
 pub walk-counts : (c : Class) (all left : List (Tag × Entity)) (k : Tag × Entity) (count : ℕ) → Walk c all count (k ∷ left) → class_of k.1 ≡ c → Walk c all (count + 1) left
 walk-counts c all left k count w is =
     let one : ◌≡◌ {A = ℕ} (cond (same_class (class_of k.1) c) 1 0) 1 = ap (λ b. cond (same_class b c) 1 0) is ∙ ap (λ b. cond b 1 0) (same_class-itself c) in
     let step = sum_by-cons (λ (j : Tag × Entity). cond (same_class (class_of j.1) c) 1 0) k left in
     let sum = w.sum in
-    let few = w.few in
-    record { sum = omega (arith, one, step, sum); few = omega (arith, few) }
+    record { sum = omega (arith, one, step, sum) }
 
 pub walk-passes : (c : Class) (all left : List (Tag × Entity)) (k : Tag × Entity) (count : ℕ) → Walk c all count (k ∷ left) → class_of k.1 ≢ c → Walk c all count left
 walk-passes c all left k count w other =
     let none : ◌≡◌ {A = ℕ} (cond (same_class (class_of k.1) c) 1 0) 0 = ap (λ b. cond b 1 0) (other_class (class_of k.1) c other) in
     let step = sum_by-cons (λ (j : Tag × Entity). cond (same_class (class_of j.1) c) 1 0) k left in
     let sum = w.sum in
-    let few = w.few in
-    record { sum = omega (arith, none, step, sum); few = omega (arith, few) }
+    record { sum = omega (arith, none, step, sum) }
 
--- ---- how many there are
+-- ---- a walk that ends at the first that is one too many
 
-length-firsts : (es : List (Tag × Entity)) → length (map (λ (x : Tag × Entity). x.0) es) ≡ length es
-length-firsts [] = refl
-length-firsts (x ∷ es) = omega (arith, length-firsts es)
+-- the one that is met is one more than those that were counted
+pub walk-more : (m : EntityMap) → IsSound m → (c : Class) (o : Tag) (left : List (Tag × Entity)) (k : Tag × Entity) (count : ℕ) → Walk c (kids_of m (Some o)) count (k ∷ left) → class_of k.1 ≡ c
+    → nat_lt count (length (parts_of_class c (shape_of m) o)) ≡ true
+walk-more m s c o left k count w is =
+    let sum = (walk-counts c (kids_of m (Some o)) left k count w is).sum in
+    lt-ltb count (length (parts_of_class c (shape_of m) o)) (omega (arith, sum, kids-counted m s c o))
 
--- an entity has no more kids than there are entities
-pub few-kids : (m : EntityMap) (o : Option Tag) → length (kids_of m o) ≤ len m
-few-kids m o = omega (arith, length-filter_map (λ t. kid_at o t (get m t)) (keys m), length-firsts (entries m), len-entries m)
-
--- and so the kids can be counted
-pub walk-fits : (m : EntityMap) (c : Class) (o : Option Tag) (left : List (Tag × Entity)) (k : Tag × Entity) (count : ℕ) → Walk c (kids_of m o) count (k ∷ left) → count + 1 ≤ len m
-walk-fits m c o left k count w =
-    let few = w.few in
-    omega (arith, few, few-kids m o)
+-- where none is left, no more were counted than there may be
+pub walk-ends : (m : EntityMap) → IsSound m → (c : Class) (o : Tag) (count than : ℕ) → Walk c (kids_of m (Some o)) count [] → count ≤ than
+    → nat_lt than (length (parts_of_class c (shape_of m) o)) ≡ false
+walk-ends m s c o count than w most =
+    let sum = w.sum in
+    le-ltb than (length (parts_of_class c (shape_of m) o)) (omega (arith, sum, most, kids-counted m s c o))

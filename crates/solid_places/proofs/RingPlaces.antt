@@ -16,7 +16,7 @@ use Rattle.solid_model.specs.Shapes.{shape_of}
 use Rattle.solid_model.specs.Sound.{IsSound, class_at}
 use Rattle.solid_sound.proofs.shapes.FinRings.{asked_fin}
 use Rattle.solid_sound.proofs.rows.RowKeeps.{well-shape}
-use Rattle.solid_calls.specs.LinkedRings.{IsInRing, ring_at}
+use Rattle.halfedge.specs.LinkedRings.{IsInRing, ring_at}
 use Rattle.solid_calls.proofs.Represented.{represents-sound, ring-of_fin}
 use Rattle.solid_places.proofs.Read.{item-of, entity-of, answered, same_Ok}
 use Rattle.solid_places.proofs.Around.{fin-loop, fin-first}

@@ -3,7 +3,7 @@ ghost use Rattle.pk_base.specs.declared.entity.Class.TheVariants as class;
 ghost use Rattle.solid_model.specs.Places.{end_at as the_end_at, outer_at};
 ghost use Rattle.solid_model.specs.Shapes.{shape_of};
 ghost use Rattle.solid_model.specs.Sound.{IsSound, class_at};
-ghost use Rattle.solid_calls.specs.LinkedRings.{IsInRing, ring_of_any};
+ghost use Rattle.halfedge.specs.LinkedRings.{IsInRing, ring_of_any};
 ghost use Rattle.solid_places.specs.Placed.{place_of_end};
 
 use crate::live::live;

@@ -2,7 +2,7 @@ ghost use Rattle.std.specs.Prelude.{◌≡◌, IfOk, IfErr, Ok, Err};
 ghost use Rattle.solid_model.specs.Places.{fin_at as the_fin_at};
 ghost use Rattle.solid_model.specs.Shapes.{shape_of};
 ghost use Rattle.solid_model.specs.Sound.{IsSound};
-ghost use Rattle.solid_calls.specs.LinkedRings.{IsInRing, ring_at};
+ghost use Rattle.halfedge.specs.LinkedRings.{IsInRing, ring_at};
 
 use crate::live::live;
 use crate::loops::known_loop;

@@ -8,7 +8,7 @@ pub use ends::{End, end_at};
 pub use faces::{PlacedFace, body_at, face_at};
 pub use fins::{PlacedFin, fin_at};
 pub use loops::{PlacedLoop, loop_at};
-pub use parts::{has_rings, number_of_parts};
+pub use parts::{has_more_parts, has_rings};
 
 mod ends;
 mod faces;

@@ -1,4 +1,4 @@
-ghost use Rattle.std.specs.Prelude.{◌≡◌, length};
+ghost use Rattle.std.specs.Prelude.{◌≡◌, length, nat_lt};
 ghost use Rattle.solid_model.specs.Owners.{has_rings as the_has_rings, parts_of_class};
 ghost use Rattle.solid_model.specs.Shapes.{shape_of};
 ghost use Rattle.solid_model.specs.Sound.{IsSound};
@@ -12,28 +12,31 @@ pub fn has_rings<L: Ledger>(store: &Store, face: Tag, steps: &mut Steps<L>) -> b
     requires { IsSound store.now.state.map }
     ensures { result ≡ the_has_rings (shape_of store.now.state.map) face }
 {
-    number_of_parts(store, Class::Loop, face, steps) > 1
+    has_more_parts(store, Class::Loop, face, 1, steps)
 }
 
-/// How many entities of a class this one owns. It takes no memory.
-pub fn number_of_parts<L: Ledger>(
+/// Whether an entity owns more than so many entities of a class. It looks no further than the first
+/// one past them, and takes no memory.
+pub fn has_more_parts<L: Ledger>(
     store: &Store,
     class: Class,
     owner: Tag,
+    than: usize,
     steps: &mut Steps<L>,
-) -> usize
+) -> bool
     requires { IsSound store.now.state.map }
     ensures { result
-        ≡ length (parts_of_class class (shape_of store.now.state.map) owner) }
+        ≡ nat_lt than (length (parts_of_class class (shape_of store.now.state.map) owner)) }
 {
-    // There are no more of them than live entities, so they can be counted.
-    let _len = store.len();
     let mut kids = store.kids(owner);
     let mut count: usize = 0;
     while let Some((_, kid)) = kids.next(steps) {
         if kid.class() == class {
+            if count == than {
+                return true;
+            }
             count += 1;
         }
     }
-    count
+    false
 }

@@ -1,5 +1,4 @@
 -- In reading order.
-pub mod lists
 pub mod shapes
 pub mod edges
 pub mod rows

@@ -28,11 +28,13 @@ use Rattle.solid_model.specs.Mef.{mef}
 use Rattle.list_facts.proofs.Elements.{Contains-first, Contains-cases}
 use Rattle.list_facts.proofs.Each.{ByRecursion-append, ByRecursion-contains, ByRecursion-get_or, ByRecursion-at}
 use Rattle.pk_model.proofs.VertexModeller.{TagsAscend-at}
-use Rattle.solid_sound.proofs.lists.Neighbours.{same_itself, not_same, parts_at}
-use Rattle.solid_sound.proofs.lists.Turned.{turned-least}
-use Rattle.solid_sound.proofs.lists.Cycles.{least, least-first, written-itself}
+use Rattle.pk_base.proofs.Same.{same_itself, not_same}
+use Rattle.solid_model.proofs.lists.Neighbours.{parts_at}
+use Rattle.solid_model.proofs.lists.Turned.{turned-least}
+use Rattle.solid_model.proofs.lists.Cycles.{least, least-first, written-itself}
 use Rattle.solid_sound.proofs.shapes.Lookups.{Items, with-other, with-written}
-use Rattle.solid_sound.proofs.shapes.Reading.{not_before, vertex_of_class, fins-once, loop-of_fin}
+use Rattle.solid_model.proofs.Reading.{not_before}
+use Rattle.solid_sound.proofs.shapes.Reading.{vertex_of_class, fins-once, loop-of_fin}
 use Rattle.solid_sound.proofs.rows.RowKeeps.{IsWell}
 use Rattle.solid_sound.proofs.rows.Asked.{free_at, apart_at}
 use Rattle.solid_sound.proofs.rows.Progress.{in_drop, start, Began, left-ascend, left-free, left-enough, began-mev}

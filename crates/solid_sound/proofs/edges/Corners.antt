@@ -14,11 +14,11 @@ use Rattle.solid_model.specs.Places.{mate_of, mate_at, vertex_of, start_at}
 use Rattle.solid_model.specs.Sound.{ComesAfter, GoesRound, end_of, is_empty}
 use Rattle.list_facts.proofs.Elements.{not_in_nil, Contains-first, Contains-later, Contains-cases, Contains-only}
 use Rattle.list_facts.proofs.Each.{ByRecursion-contains, ByRecursion-at}
-use Rattle.solid_sound.proofs.lists.Neighbours.{neighbours-in}
-use Rattle.solid_sound.proofs.lists.Cycles.{written-first}
-use Rattle.solid_sound.proofs.lists.Turned.{chain_end, turned-written, turned-in, turned-back, turned-once, turned-all}
+use Rattle.solid_model.proofs.lists.Neighbours.{neighbours-in}
+use Rattle.solid_model.proofs.lists.Cycles.{written-first}
+use Rattle.solid_model.proofs.lists.Turned.{chain_end, turned-written, turned-in, turned-back, turned-once, turned-all}
 use Rattle.solid_sound.proofs.shapes.Reading.{fin_in, loop-of_fin}
-use Rattle.solid_sound.proofs.shapes.Found.{same_or_other}
+use Rattle.pk_base.proofs.Same.{same_or_other}
 use Rattle.solid_sound.proofs.rows.RowKeeps.{IsWell}
 
 -- ---- fins that stay

@@ -21,10 +21,10 @@ use Rattle.solid_model.specs.Links.{is_fin_of}
 use Rattle.solid_model.specs.Sound.{HasAttributes, ComesAfter, GoesRound, MeetsEulerPoincare, NamesItsKind, AreOf, class_at, times_in_loops, fins_with_edge, end_of, loops_alone_at, is_empty, optional}
 use Rattle.list_facts.proofs.Elements.{Contains-first, Contains-later, Contains-cases}
 use Rattle.list_facts.proofs.Each.{ByRecursion-contains, ByRecursion-at}
-use Rattle.solid_sound.proofs.lists.Neighbours.{same_itself, neighbours-in}
-use Rattle.solid_sound.proofs.lists.Cycles.{first-dropped, once-written, in-written, written-in, written-neighbours, written-first}
+use Rattle.pk_base.proofs.Same.{same_itself, same_or_other}
+use Rattle.solid_model.proofs.lists.Neighbours.{neighbours-in}
+use Rattle.solid_model.proofs.lists.Cycles.{first-dropped, once-written, in-written, written-in, written-neighbours, written-first}
 use Rattle.solid_sound.proofs.shapes.Reading.{fin_of_class}
-use Rattle.solid_sound.proofs.shapes.Found.{same_or_other}
 use Rattle.solid_sound.proofs.shapes.Names.{NotAttr}
 use Rattle.solid_sound.proofs.shapes.Numbers.{number-alike, counts_in}
 use Rattle.solid_sound.proofs.shapes.Sums.{weight_at, sum-alike}

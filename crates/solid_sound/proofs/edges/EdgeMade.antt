@@ -21,8 +21,8 @@ use Rattle.solid_model.specs.Places.{mate_at}
 use Rattle.solid_model.specs.Links.{is_fin_of}
 use Rattle.solid_model.specs.Sound.{IsMated, AreOf, optional, ComesAfter, GoesRound, MeetsEulerPoincare, NamesItsKind, class_at, times_in_loops, fins_with_edge, is_alone_in, loops_alone_at, is_empty}
 use Rattle.list_facts.proofs.Each.{ByRecursion-weaker, ByRecursion-contains, ByRecursion-at}
-use Rattle.solid_sound.proofs.lists.Neighbours.{same_itself, not_same, one_if, times, times-none, neighbours-in}
-use Rattle.solid_sound.proofs.shapes.Found.{same_or_other}
+use Rattle.pk_base.proofs.Same.{same_itself, not_same, same_or_other}
+use Rattle.solid_model.proofs.lists.Neighbours.{one_if, times, times-none, neighbours-in}
 use Rattle.solid_sound.proofs.shapes.Names.{NotAttr}
 use Rattle.solid_sound.proofs.shapes.Numbers.{number-alike, counts_in}
 use Rattle.solid_sound.proofs.shapes.Sums.{sum-alike, sum-nothing}

@@ -17,9 +17,10 @@ use Rattle.solid_model.specs.Places.{asked, fins_at, End, end_in, end_of_item, P
 use Rattle.solid_model.specs.Sound.{class_at, is_empty, is_alone_in, loops_alone_at}
 use Rattle.list_facts.proofs.Elements.{not_in_nil, Contains-first, Contains-later}
 use Rattle.list_facts.proofs.Each.{ByRecursion-append, ByRecursion-at}
-use Rattle.solid_sound.proofs.lists.Neighbours.{one_if, same_itself, times, times-cons, times-append, neighbours_from-append}
-use Rattle.solid_sound.proofs.lists.Cycles.{written-first, merge-first, merge-second}
-use Rattle.solid_sound.proofs.lists.Turned.{Turned, chain_end, all_to_end, turned-written}
+use Rattle.solid_model.proofs.lists.Neighbours.{one_if, times, times-cons, times-append, neighbours_from-append}
+use Rattle.pk_base.proofs.Same.{same_itself}
+use Rattle.solid_model.proofs.lists.Cycles.{written-first, merge-first, merge-second}
+use Rattle.solid_model.proofs.lists.Turned.{Turned, chain_end, all_to_end, turned-written}
 use Rattle.solid_sound.proofs.shapes.Reading.{vertex_of_class, found-le, loop-of_fin}
 use Rattle.solid_sound.proofs.edges.Corners.{IsFin, CornerAt, Round, round-of}
 use Rattle.solid_sound.proofs.shapes.Bodies.{leads_up, loop_with-some, loop_with-found, body_of-live}

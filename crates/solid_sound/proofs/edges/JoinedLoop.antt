@@ -15,9 +15,10 @@ use Rattle.solid_model.specs.Places.{start_at, End}
 use Rattle.solid_model.specs.Sound.{ComesAfter, AreOf, class_at, end_of, is_empty, is_alone_in}
 use Rattle.list_facts.proofs.Elements.{Contains-first}
 use Rattle.list_facts.proofs.Each.{ByRecursion-weaker, ByRecursion-contains}
-use Rattle.solid_sound.proofs.lists.Neighbours.{one_if, same_itself, not_same}
-use Rattle.solid_sound.proofs.lists.Cycles.{from_least-again}
-use Rattle.solid_sound.proofs.lists.Turned.{turned-in, turned-least, turned-each, turned-all, turned-neighbours, turned-once}
+use Rattle.solid_model.proofs.lists.Neighbours.{one_if}
+use Rattle.pk_base.proofs.Same.{same_itself, not_same}
+use Rattle.solid_model.proofs.lists.Cycles.{from_least-again}
+use Rattle.solid_model.proofs.lists.Turned.{turned-in, turned-least, turned-each, turned-all, turned-neighbours, turned-once}
 use Rattle.solid_sound.proofs.shapes.Reading.{vertex_of_class, fin_in, fins-once}
 use Rattle.solid_sound.proofs.shapes.Bodies.{leads_up, item_of_class}
 use Rattle.solid_sound.proofs.edges.Corners.{IsFin, Follows, CornerAt, mate_of_fin, start_of_fin, follow-stays}

@@ -11,14 +11,14 @@ use Rattle.pk_model.specs.Maps.{EntityMap}
 use Rattle.pk_model.specs.Modelling.{Outcome, MayBeAsked, IsModeller}
 use Rattle.list_facts.proofs.Each.{ByRecursion-weaker}
 use Rattle.solid_model.specs.Items.{Shape, item_at}
-use Rattle.solid_model.specs.Rows.{Row}
+use Rattle.solid_model.specs.Rows.{Row, cost_of}
 use Rattle.solid_model.specs.Rows.Effect.{Makes, Changes, Tells}
 use Rattle.solid_model.specs.Places.{live_at, body_at, loop_at}
 use Rattle.solid_model.specs.Links.{links}
 use Rattle.solid_model.specs.Shapes.{shape_of}
 use Rattle.solid_model.specs.Sound.{IsSound}
 use Rattle.solid_model.specs.Calls.{row_of}
-use Rattle.solid_model.specs.Euler.{euler, step_by, outcome_of, cost_of}
+use Rattle.solid_model.specs.Euler.{euler, step_by, outcome_of}
 use Rattle.solid_sound.specs.Keeping.{KeepsSoundness}
 use Rattle.list_facts.proofs.Elements.{not_in_nil}
 use Rattle.solid_sound.proofs.shapes.OnlyShape.{shape-read}

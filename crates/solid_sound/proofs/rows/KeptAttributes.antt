@@ -8,7 +8,7 @@ use Rattle.std.specs.FinMap.Entries.{is_sorted-put}
 use Rattle.std.proofs.lemmas.Bool.{true≢false, cases_Bool, and_parts, or_cases, not-false}
 use Rattle.std.proofs.lemmas.Option.{same_Some}
 use Rattle.pk_base.specs.Entity.{same_tag, same_name}
-use Rattle.pk_base.proofs.Same.{same_name-Decides}
+use Rattle.pk_base.proofs.Same.{same_name-Decides, same_means, same_itself, same_or_other}
 use Rattle.pk_base.specs.declared.tag.Tag.{Tag}
 use Rattle.pk_base.specs.declared.entity.Name.{Name}
 use Rattle.pk_base.specs.declared.entity.Class.{Class}
@@ -28,9 +28,9 @@ use Rattle.solid_model.specs.DropAttr.{dropped, drop_attribute}
 use Rattle.solid_model.specs.Sound.{HasAttributes, class_at}
 use Rattle.list_facts.proofs.Elements.{not_in_nil, Contains-cases}
 use Rattle.list_facts.proofs.Each.{ByRecursion-at}
-use Rattle.solid_sound.proofs.lists.Neighbours.{same_means, same_itself, in-is_among}
+use Rattle.solid_model.proofs.lists.Neighbours.{in-is_among}
 use Rattle.solid_sound.proofs.shapes.Lookups.{put-same, put-other, filter-was, filter-kept, filter-sorted}
-use Rattle.solid_sound.proofs.shapes.Found.{none_or_some, same_or_other, find-some, find-none, among-item, item-among, filter-none, filter-lost}
+use Rattle.solid_sound.proofs.shapes.Found.{none_or_some, find-some, find-none, among-item, item-among, filter-none, filter-lost}
 use Rattle.solid_sound.proofs.shapes.Sums.{sum-put, sum-left}
 use Rattle.solid_sound.proofs.shapes.Bones.{bone, bone_of, SameBones, class_forth, bones-sound, bones-written}
 use Rattle.solid_sound.proofs.rows.RowKeeps.{IsWell, Keeps, keeps-bind}

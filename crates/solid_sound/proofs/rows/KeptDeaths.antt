@@ -26,7 +26,8 @@ use Rattle.solid_model.specs.Delete.{delete}
 use Rattle.solid_model.specs.Sound.{IsSoundShape, ComesAfter, GoesRound, NamesItsKind, class_at, times_in_loops, fins_with_edge, end_of, is_alone_in, loops_alone_at}
 use Rattle.list_facts.proofs.Elements.{Contains-map, map_contains}
 use Rattle.list_facts.proofs.Each.{ByRecursion-contains, ByRecursion-at}
-use Rattle.solid_sound.proofs.lists.Neighbours.{same_means, not_same, same_itself, is_among-in, in-is_among, not_among, times, times-none, neighbours-in, neither_parts, neither_from}
+use Rattle.pk_base.proofs.Same.{same_means, not_same, same_itself}
+use Rattle.solid_model.proofs.lists.Neighbours.{is_among-in, in-is_among, not_among, times, times-none, neighbours-in, neither_parts, neither_from}
 use Rattle.solid_sound.proofs.shapes.Lookups.{filter-was, filter-kept, filter-sorted}
 use Rattle.solid_sound.proofs.shapes.Reading.{fin_in}
 use Rattle.solid_sound.proofs.shapes.Found.{among-item, item-among}

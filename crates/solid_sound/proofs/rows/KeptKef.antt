@@ -21,9 +21,10 @@ use Rattle.solid_model.specs.Links.{is_fin_of}
 use Rattle.solid_model.specs.Kef.{kef}
 use Rattle.solid_model.specs.Sound.{ComesAfter, AreOf, class_at, is_alone_in, loops_alone_at, optional}
 use Rattle.list_facts.proofs.Elements.{Contains-first, Contains-later, Contains-only}
-use Rattle.solid_sound.proofs.lists.Neighbours.{NoneOf, not_same, times, times-cons, one_if, neighbours-in, times-append, differs_means}
-use Rattle.solid_sound.proofs.lists.Cycles.{Pair, steps, step_or_last, step-in, last-in, after_first, before_first, from_least-again, times-least, least-in, least-neighbours, neighbours-least, is_empty-least, first-ring, last-ring, step-ring, ring-step, merge-first, merge-second, merge-cases}
-use Rattle.solid_sound.proofs.shapes.Found.{same_or_other}
+use Rattle.pk_model.proofs.TagLists.{NoneOf}
+use Rattle.pk_base.proofs.Same.{not_same, differs_means, same_or_other}
+use Rattle.solid_model.proofs.lists.Neighbours.{times, times-cons, one_if, neighbours-in, times-append}
+use Rattle.solid_model.proofs.lists.Cycles.{Pair, steps, step_or_last, step-in, last-in, after_first, before_first, from_least-again, times-least, least-in, least-neighbours, neighbours-least, is_empty-least, first-ring, last-ring, step-ring, ring-step, merge-first, merge-second, merge-cases}
 use Rattle.solid_sound.proofs.shapes.Lookups.{Items, tags_in}
 use Rattle.solid_sound.proofs.shapes.Names.{NotAttr}
 use Rattle.solid_sound.proofs.shapes.Numbers.{counts_in}

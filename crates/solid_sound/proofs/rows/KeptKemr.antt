@@ -24,9 +24,10 @@ use Rattle.solid_model.specs.Links.{is_fin_of}
 use Rattle.solid_model.specs.Kemr.{kemr}
 use Rattle.solid_model.specs.Sound.{ComesAfter, AreOf, class_at, is_alone_in, loops_alone_at, optional}
 use Rattle.list_facts.proofs.Elements.{Contains-first, Contains-later, Contains-cases, Contains-only}
-use Rattle.solid_sound.proofs.lists.Neighbours.{NoneOf, same_means, not_same, times, times-cons, one_if, times-append}
-use Rattle.solid_sound.proofs.lists.Cycles.{from_least-again, times-least, least-in, least-neighbours, neighbours-least, is_empty-least, neighbours-turned, once-turned, merge-first, merge-second, merge-cases, between-step, between-was, cut-joins, cut-empty, cut-more, cut-at}
-use Rattle.solid_sound.proofs.shapes.Found.{same_or_other}
+use Rattle.pk_model.proofs.TagLists.{NoneOf}
+use Rattle.pk_base.proofs.Same.{same_means, not_same, same_or_other}
+use Rattle.solid_model.proofs.lists.Neighbours.{times, times-cons, one_if, times-append}
+use Rattle.solid_model.proofs.lists.Cycles.{from_least-again, times-least, least-in, least-neighbours, neighbours-least, is_empty-least, neighbours-turned, once-turned, merge-first, merge-second, merge-cases, between-step, between-was, cut-joins, cut-empty, cut-more, cut-at}
 use Rattle.solid_sound.proofs.shapes.Lookups.{Items, tags_in}
 use Rattle.solid_sound.proofs.shapes.Names.{NotAttr}
 use Rattle.solid_sound.proofs.shapes.Numbers.{counts_in}

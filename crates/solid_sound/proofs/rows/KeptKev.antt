@@ -22,10 +22,12 @@ use Rattle.solid_model.specs.Links.{is_fin_of}
 use Rattle.solid_model.specs.Kev.{kev}
 use Rattle.solid_model.specs.Sound.{ComesAfter, AreOf, class_at, is_alone_in, loops_alone_at, optional}
 use Rattle.list_facts.proofs.Elements.{not_in_nil, Contains-first, Contains-later, Contains-only}
-use Rattle.solid_sound.proofs.lists.Neighbours.{NoneOf, same_means, not_same, times, times-cons, one_if, alone_in_ring, head_or}
-use Rattle.solid_sound.proofs.lists.Cycles.{Pair, after_first, from_least-again, times-least, least-in, least-neighbours, neighbours-least, is_empty-least, merge-second, merge-cases, between-step, between-was, cut-joins, cut-empty, cut-more}
-use Rattle.solid_sound.proofs.shapes.Reading.{next_in-parts, vertex_of_class}
-use Rattle.solid_sound.proofs.shapes.Found.{same_or_other}
+use Rattle.pk_model.proofs.TagLists.{NoneOf}
+use Rattle.pk_base.proofs.Same.{same_means, not_same, same_or_other}
+use Rattle.solid_model.proofs.lists.Neighbours.{times, times-cons, one_if, alone_in_ring, head_or}
+use Rattle.solid_model.proofs.lists.Cycles.{Pair, after_first, from_least-again, times-least, least-in, least-neighbours, neighbours-least, is_empty-least, merge-second, merge-cases, between-step, between-was, cut-joins, cut-empty, cut-more}
+use Rattle.solid_model.proofs.Reading.{next_in-parts}
+use Rattle.solid_sound.proofs.shapes.Reading.{vertex_of_class}
 use Rattle.solid_sound.proofs.shapes.Lookups.{Items, tags_in}
 use Rattle.solid_sound.proofs.shapes.Names.{NotAttr}
 use Rattle.solid_sound.proofs.shapes.Numbers.{counts_in}

@@ -27,9 +27,10 @@ use Rattle.solid_model.specs.Kfmrh.{kfmrh}
 use Rattle.solid_model.specs.Deaths.{is_attribute_of, dies_with, ◌without◌}
 use Rattle.solid_model.specs.Sound.{MeetsEulerPoincare, class_at}
 use Rattle.list_facts.proofs.Elements.{not_in_nil, Contains-first, Contains-map, Contains-only}
-use Rattle.solid_sound.proofs.lists.Neighbours.{same_itself, same_means, differs_means, not_same, is_among-in, in-is_among, not_among, neither_parts, neither_from}
+use Rattle.pk_base.proofs.Same.{same_itself, same_means, differs_means, not_same, same_or_other}
+use Rattle.solid_model.proofs.lists.Neighbours.{is_among-in, in-is_among, not_among, neither_parts, neither_from}
 use Rattle.solid_sound.proofs.shapes.Lookups.{put-same, put-other, filter-was, filter-kept}
-use Rattle.solid_sound.proofs.shapes.Found.{same_or_other, item-among}
+use Rattle.solid_sound.proofs.shapes.Found.{item-among}
 use Rattle.solid_sound.proofs.shapes.Names.{NotAttr}
 use Rattle.solid_sound.proofs.shapes.Numbers.{number-attribute, counts_in}
 use Rattle.solid_sound.proofs.shapes.Attributes.{attribute_of-class, no_attribute_of}

@@ -22,12 +22,12 @@ use Rattle.solid_model.specs.Links.{is_fin_of}
 use Rattle.solid_model.specs.Mef.{mef}
 use Rattle.solid_model.specs.Sound.{ComesAfter, class_at, times_in_loops, fins_with_edge, is_alone_in, is_empty, loops_alone_at, end_of, AreOf}
 use Rattle.list_facts.proofs.Elements.{Contains-first, Contains-later}
-use Rattle.solid_sound.proofs.lists.Neighbours.{same_means, differs_means, once-last, one_if, times}
-use Rattle.solid_sound.proofs.lists.Cycles.{cut-at}
-use Rattle.solid_sound.proofs.lists.Turned.{Turned, turned-back, turned-in, turned-least, turned-neighbours, turned-times}
+use Rattle.pk_base.proofs.Same.{same_means, differs_means, same_or_other}
+use Rattle.solid_model.proofs.lists.Neighbours.{once-last, one_if, times}
+use Rattle.solid_model.proofs.lists.Cycles.{cut-at}
+use Rattle.solid_model.proofs.lists.Turned.{Turned, turned-back, turned-in, turned-least, turned-neighbours, turned-times}
 use Rattle.solid_sound.proofs.shapes.Reading.{vertex_of_class}
 use Rattle.solid_sound.proofs.shapes.Lookups.{Items}
-use Rattle.solid_sound.proofs.shapes.Found.{same_or_other}
 use Rattle.solid_sound.proofs.shapes.Sums.{Weight}
 use Rattle.solid_sound.proofs.shapes.Names.{NotAttr}
 use Rattle.solid_sound.proofs.shapes.Bodies.{body_or_new, new-body, old-body}
@@ -40,7 +40,7 @@ use Rattle.solid_sound.proofs.edges.EdgeMade.{made_in, is_fixed, fixed-not_attr,
 use Rattle.solid_sound.proofs.shapes.ByClass.{each-fin, each-edge, each-vertex, each-face, each-loop, outside-was}
 use Rattle.solid_sound.proofs.edges.Ends.{EndIn, as_end, FinIn, fin-well}
 use Rattle.solid_sound.proofs.edges.JoinedLoop.{end-once, end-loop_body, end-vertex_body, end-body, end-face, end-face_body, Side, loop-comes, loop-of_ring, side-of_end, end-alone}
-use Rattle.solid_sound.proofs.lists.Parted.{whole, first_part, second_part, Place, parted, parted-after_n, parted-after_m, ends_apart, first-all, second-all, first-each, second-each, parted-times}
+use Rattle.solid_model.proofs.lists.Parted.{whole, first_part, second_part, Place, parted, parted-after_n, parted-after_m, ends_apart, first-all, second-all, first-each, second-each, parted-times}
 use Rattle.solid_sound.proofs.rows.KeptRings.{face_of_class, FaceIn, face_in}
 use Rattle.solid_sound.proofs.rows.KeptMotions.{AreCoordinates}
 use Rattle.solid_sound.proofs.rows.RowKeeps.{IsWell, Keeps, keeps-after, keeps-bind, not_refused}

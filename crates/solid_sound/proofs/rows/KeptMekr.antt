@@ -23,11 +23,11 @@ use Rattle.solid_model.specs.Rows.{refuse_where}
 use Rattle.solid_model.specs.Links.{is_fin_of}
 use Rattle.solid_model.specs.Mekr.{mekr}
 use Rattle.solid_model.specs.Sound.{ComesAfter, class_at, times_in_loops, fins_with_edge, is_alone_in, loops_alone_at}
-use Rattle.solid_sound.proofs.lists.Neighbours.{same_means, differs_means, once-last, one_if, times}
-use Rattle.solid_sound.proofs.lists.Turned.{turned-back, turned-in, turned-least, turned-neighbours, turned-times}
+use Rattle.pk_base.proofs.Same.{same_means, differs_means, same_or_other}
+use Rattle.solid_model.proofs.lists.Neighbours.{once-last, one_if, times}
+use Rattle.solid_model.proofs.lists.Turned.{turned-back, turned-in, turned-least, turned-neighbours, turned-times}
 use Rattle.solid_sound.proofs.shapes.Reading.{vertex_of_class}
 use Rattle.solid_sound.proofs.shapes.Lookups.{Items}
-use Rattle.solid_sound.proofs.shapes.Found.{same_or_other}
 use Rattle.solid_sound.proofs.shapes.Sums.{Weight}
 use Rattle.solid_sound.proofs.shapes.Names.{NotAttr}
 use Rattle.solid_sound.proofs.shapes.Bodies.{leads_up, body_or_new, new-body, old-body}

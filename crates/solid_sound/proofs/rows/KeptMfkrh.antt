@@ -23,9 +23,8 @@ use Rattle.solid_model.specs.Rows.{refuse_where}
 use Rattle.solid_model.specs.Places.{PlacedLoop, loop_at, outer_of, outer_at, q_at}
 use Rattle.solid_model.specs.Mfkrh.{mfkrh}
 use Rattle.solid_model.specs.Sound.{MeetsEulerPoincare, class_at}
-use Rattle.solid_sound.proofs.lists.Neighbours.{same_itself, differs_means, not_same}
+use Rattle.pk_base.proofs.Same.{same_itself, differs_means, not_same, same_or_other}
 use Rattle.solid_sound.proofs.shapes.Lookups.{put-same, put-other}
-use Rattle.solid_sound.proofs.shapes.Found.{same_or_other}
 use Rattle.solid_sound.proofs.shapes.Numbers.{counts_in}
 use Rattle.solid_sound.proofs.shapes.Sums.{weight_at, sum-alike, sum-put}
 use Rattle.solid_sound.proofs.shapes.Bodies.{LeadsUp, item_of_class, agreed-LeadsUp, body_or_new, new-body, old-body}

@@ -27,7 +27,7 @@ use Rattle.solid_model.specs.Sound.{HasAttributes}
 use Rattle.solid_model.proofs.Written.{is_sorted-map}
 use Rattle.list_facts.proofs.Elements.{Contains-first, Contains-later, Contains-flat_map}
 use Rattle.list_facts.proofs.Each.{ByRecursion-weaker, ByRecursion-contains, ByRecursion-at}
-use Rattle.solid_sound.proofs.shapes.Reading.{find-map}
+use Rattle.solid_model.proofs.Reading.{find-map}
 use Rattle.solid_sound.proofs.shapes.Found.{find-none}
 use Rattle.solid_sound.proofs.shapes.Bones.{bone, bone_of, SameBones, class_forth, bones-sound, bones-written, sum-every}
 use Rattle.solid_sound.proofs.rows.RowKeeps.{IsWell, Keeps, keeps-after, keeps-bind}

@@ -24,7 +24,8 @@ use Rattle.solid_model.specs.Mvfs.{mvfs}
 use Rattle.solid_model.specs.Sound.{IsWritten, IsSoundShape, AreOf, optional, ComesAfter, GoesRound, MeetsEulerPoincare, NamesItsKind, class_at, times_in_loops, fins_with_edge, end_of, is_alone_in, loops_alone_at}
 use Rattle.list_facts.proofs.Elements.{not_in_nil}
 use Rattle.list_facts.proofs.Each.{ByRecursion-contains, ByRecursion-at}
-use Rattle.solid_sound.proofs.lists.Neighbours.{same_itself, not_same, times, neighbours-in}
+use Rattle.pk_base.proofs.Same.{same_itself, not_same}
+use Rattle.solid_model.proofs.lists.Neighbours.{times, neighbours-in}
 use Rattle.solid_sound.proofs.shapes.Reading.{fin_in}
 use Rattle.solid_sound.proofs.shapes.Lookups.{Items}
 use Rattle.solid_sound.proofs.shapes.Sums.{sum-alike, sum-nothing}

@@ -20,9 +20,8 @@ use Rattle.solid_model.specs.Rows.{refuse_where}
 use Rattle.solid_model.specs.Places.{asked, PlacedLoop, placed_loop, as_loop, loop_at, PlacedFace, as_face, face_at, outer_of, outer_at, q_of, q_at, lone_of, in_face}
 use Rattle.solid_model.specs.RingMove.{ringmove}
 use Rattle.solid_model.specs.Sound.{HasAttributes, MeetsEulerPoincare, NamesItsKind, class_at, optional, AreOf}
-use Rattle.solid_sound.proofs.lists.Neighbours.{same_means, differs_means}
+use Rattle.pk_base.proofs.Same.{same_means, differs_means, same_or_other}
 use Rattle.solid_sound.proofs.shapes.Lookups.{put-same, put-other}
-use Rattle.solid_sound.proofs.shapes.Found.{same_or_other}
 use Rattle.solid_sound.proofs.shapes.Names.{NotAttr}
 use Rattle.solid_sound.proofs.shapes.Numbers.{number-alike, counts_in}
 use Rattle.solid_sound.proofs.shapes.Sums.{weight_at, sum-alike, sum-put}

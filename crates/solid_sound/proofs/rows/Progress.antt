@@ -17,9 +17,8 @@ use Rattle.pk_model.specs.Tags.{TagsAscend, tag_at}
 use Rattle.pk_model.specs.Step.{◌>>=◌}
 use Rattle.pk_model.proofs.TagLists.{TagsAscend-drop}
 use Rattle.solid_model.specs.Items.{Shape, item_at}
-use Rattle.solid_model.specs.Rows.{Row, refuse_where, ◌>>◌}
+use Rattle.solid_model.specs.Rows.{Row, refuse_where, ◌>>◌, cost_of}
 use Rattle.solid_model.specs.Rows.Effect.{Makes, Changes, Tells}
-use Rattle.solid_model.specs.Euler.{cost_of}
 use Rattle.solid_model.specs.Places.{end_at, fin_at, fins_at, outer_at}
 use Rattle.solid_model.specs.Ranges.{is_coordinate, numbers_of, refuse_outside}
 use Rattle.solid_model.specs.Mvfs.{mvfs}

@@ -6,12 +6,12 @@ use Rattle.pk_model.specs.Maps.{EntityMap}
 use Rattle.pk_model.specs.Modelling.{Outcome}
 use Rattle.pk_model.specs.Step.{◌>>=◌}
 use Rattle.solid_model.specs.Items.{Shape}
-use Rattle.solid_model.specs.Rows.{Row, refuse_where, ◌>>◌}
+use Rattle.solid_model.specs.Rows.{Row, refuse_where, ◌>>◌, cost_of}
 use Rattle.solid_model.specs.Rows.Effect.{Makes, Changes, Tells}
 use Rattle.solid_model.specs.Links.{links}
 use Rattle.solid_model.specs.Shapes.{shape_of}
 use Rattle.solid_model.specs.Sound.{IsWritten, IsSoundShape, IsSound}
-use Rattle.solid_model.specs.Euler.{step_by, outcome_of, cost_of}
+use Rattle.solid_model.specs.Euler.{step_by, outcome_of}
 use Rattle.solid_sound.proofs.shapes.OnlyShape.{shape-read}
 
 pub record IsWell (S : Shape) : Type 0 where

@@ -45,8 +45,8 @@ use Rattle.solid_model.specs.Kemr.{kemr}
 use Rattle.solid_model.specs.Kfmrh.{kfmrh}
 use Rattle.solid_model.specs.RingMove.{ringmove}
 use Rattle.solid_sound.proofs.shapes.Lookups.{put-other}
-use Rattle.solid_sound.proofs.shapes.Found.{mapped-was, same_or_other}
-use Rattle.solid_sound.proofs.shapes.Reading.{find-map}
+use Rattle.solid_model.proofs.Reading.{mapped-was, find-map}
+use Rattle.pk_base.proofs.Same.{same_or_other}
 use Rattle.solid_sound.proofs.rows.RowKeeps.{IsWell}
 use Rattle.solid_sound.proofs.edges.Ends.{end-well, fin-well}
 use Rattle.solid_sound.proofs.rows.KeptRings.{face_of_class, asked_loop, asked_face, face_in}

@@ -11,7 +11,7 @@ use Rattle.solid_model.specs.Owners.{fins_of, same_class}
 use Rattle.solid_model.specs.Links.{is_fin_of}
 use Rattle.solid_model.specs.Sound.{is_alone_in}
 use Rattle.solid_model.specs.Deaths.{is_attribute_of}
-use Rattle.solid_sound.proofs.lists.Neighbours.{times}
+use Rattle.solid_model.proofs.lists.Neighbours.{times}
 use Rattle.solid_sound.proofs.shapes.Names.{NotAttr}
 use Rattle.solid_sound.proofs.shapes.Numbers.{number-attribute, counts_in}
 use Rattle.solid_sound.proofs.shapes.Sums.{Weight}

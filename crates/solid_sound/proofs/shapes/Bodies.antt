@@ -19,7 +19,7 @@ use Rattle.solid_model.specs.Owners.{fins_of, loop_with, owner_of_item, owner_or
 use Rattle.solid_model.specs.Sound.{IsWritten, IsSoundShape, NamesItsKind, times_in_loops, class_at}
 use Rattle.list_facts.proofs.Elements.{not_in_nil}
 use Rattle.list_facts.proofs.Each.{ByRecursion-contains, ByRecursion-at}
-use Rattle.solid_sound.proofs.lists.Neighbours.{times, in-is_among, is_among-in, in-times, zero_or_more, not_among}
+use Rattle.solid_model.proofs.lists.Neighbours.{times, in-is_among, is_among-in, in-times, zero_or_more, not_among}
 use Rattle.solid_sound.proofs.shapes.Names.{EachNamed}
 use Rattle.solid_sound.proofs.shapes.Reading.{each-found, fin_of_class, loop_with-is}
 

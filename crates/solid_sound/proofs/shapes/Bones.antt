@@ -22,7 +22,7 @@ use Rattle.solid_model.specs.Places.{mate_of, mate_at, vertex_of, start_at, the_
 use Rattle.solid_model.specs.Ranges.{is_coordinate, coordinates_of}
 use Rattle.solid_model.specs.Links.{is_fin_of}
 use Rattle.solid_model.specs.Sound.{IsWritten, IsSoundShape, HasShell, HasAttributes, IsMated, ComesAfter, GoesRound, MeetsEulerPoincare, NamesItsKind, class_at, times_in_loops, fins_with_edge, end_of, is_alone_in, loops_alone_at}
-use Rattle.solid_sound.proofs.lists.Neighbours.{times}
+use Rattle.solid_model.proofs.lists.Neighbours.{times}
 use Rattle.solid_sound.proofs.shapes.Names.{NotAttr, names-carried, each-named}
 use Rattle.solid_sound.proofs.shapes.Sums.{sum-alike}
 use Rattle.solid_sound.proofs.shapes.Bodies.{LeadsUp, item_of_class, leads_up, body_of-leads, low_item}

@@ -15,7 +15,7 @@ use Rattle.pk_base.specs.declared.entity.Class.{Class}
 use Rattle.pk_base.specs.declared.entity.Class.TheVariants as class
 use Rattle.pk_model.specs.Apart.{NoRepeats}
 use Rattle.pk_model.specs.Maps.{tag_cmp}
-use Rattle.pk_model.proofs.TagLists.{tag_total}
+use Rattle.pk_model.proofs.TagLists.{tag_total, NoneOf}
 use Rattle.solid_model.specs.Items.{Item, Shape, item_at, class_of_item, ◌with◌}
 use Rattle.solid_model.specs.Items.Item.{Attr}
 use Rattle.solid_model.specs.Rings.{is_among}
@@ -24,7 +24,8 @@ use Rattle.solid_model.specs.Sound.{HasAttributes, class_at}
 use Rattle.solid_model.specs.Deaths.{is_attribute_of, dies_with, ◌without◌}
 use Rattle.list_facts.proofs.Elements.{Contains-map}
 use Rattle.list_facts.proofs.Each.{ByRecursion-left, ByRecursion-right, ByRecursion-weaker, ByRecursion-contains, ByRecursion-at}
-use Rattle.solid_sound.proofs.lists.Neighbours.{NoneOf, same_itself, same_means, not_same, none-is, is-none, none-not, not_among, neither_parts, neither_from}
+use Rattle.pk_base.proofs.Same.{same_itself, same_means, not_same}
+use Rattle.solid_model.proofs.lists.Neighbours.{none-is, is-none, none-not, not_among, neither_parts, neither_from}
 use Rattle.solid_sound.proofs.shapes.Lookups.{Items, tags_in, put-other, with-sorted, with-other, with-written, is_written, filter-was, filter-kept, filter-sorted}
 use Rattle.solid_sound.proofs.shapes.Names.{NotAttr}
 use Rattle.solid_sound.proofs.shapes.Bodies.{item_of_class}

@@ -13,8 +13,9 @@ use Rattle.solid_model.specs.Rings.{written_from, neighbours, from_least, ring_o
 use Rattle.solid_model.specs.Owners.{fins_of, owner_of_item, owner_in, body_of}
 use Rattle.solid_model.specs.Places.{asked, PlacedFin, placed_fin, as_fin, fins_at}
 use Rattle.solid_model.specs.Sound.{ComesAfter, AreOf, class_at, times_in_loops, is_alone_in, loops_alone_at, is_empty, optional}
-use Rattle.solid_sound.proofs.lists.Neighbours.{same_itself, not_same, times, times-in, neighbours-in}
-use Rattle.solid_sound.proofs.lists.Cycles.{written-first, once-written, times-written, in-written, written-in, neighbours-written, written-neighbours}
+use Rattle.pk_base.proofs.Same.{same_itself, not_same}
+use Rattle.solid_model.proofs.lists.Neighbours.{times, times-in, neighbours-in}
+use Rattle.solid_model.proofs.lists.Cycles.{written-first, once-written, times-written, in-written, written-in, neighbours-written, written-neighbours}
 use Rattle.solid_sound.proofs.shapes.Reading.{vertex_of_class, fin_in, fins-once, loop-of_fin, found-le}
 use Rattle.solid_sound.proofs.shapes.Bodies.{LeadsUp, leads_up, item_of_class, agreed-LeadsUp, loop_with-some, loop_with-found}
 use Rattle.solid_sound.proofs.edges.EdgeDeaths.{LoopLeft}

@@ -1,19 +1,17 @@
 -- What is found among the items of a shape.
-use Rattle.std.proofs.Common.{◌≡◌, ◌≢◌, ◌⊎◌, inl, inr, ⊎_elim, Bool, true, false, cond, List, [], ◌∷◌, Option, Some, None, refl, sym, ap, subst, ◌∙◌}
-use Rattle.std.specs.Prelude.{T, find, filter, option_map, IsSome, Contains}
+use Rattle.std.proofs.Common.{◌≡◌, ◌⊎◌, inl, inr, ⊎_elim, Bool, true, false, cond, List, [], ◌∷◌, Option, Some, None, refl, sym, ap, subst, ◌∙◌}
+use Rattle.std.specs.Prelude.{T, find, filter, Contains}
 use Rattle.std.specs.List.{AllByRecursion}
 use Rattle.std.specs.Ordering.{eq_by_cmp}
 use Rattle.std.specs.FinMap.{is_sorted}
 use Rattle.std.proofs.lemmas.Bool.{true≢false, cases_Bool}
 use Rattle.std.proofs.lemmas.Option.{same_Some}
-use Rattle.pk_base.specs.Entity.{same_tag}
 use Rattle.pk_base.specs.declared.tag.Tag.{Tag}
 use Rattle.pk_model.specs.Maps.{tag_cmp}
 use Rattle.pk_model.proofs.TagLists.{same_from_tie}
 use Rattle.solid_model.specs.Items.{Item, Shape, item_at}
 use Rattle.list_facts.proofs.Elements.{Contains-first, Contains-later}
 use Rattle.list_facts.proofs.Each.{ByRecursion-at}
-use Rattle.solid_sound.proofs.lists.Neighbours.{same_means, differs_means}
 use Rattle.solid_sound.proofs.shapes.Lookups.{filter-was}
 use Rattle.solid_sound.proofs.shapes.Reading.{each-found}
 
@@ -24,17 +22,6 @@ none_or_some (Some x) = inr (x, refl)
 pub none_where : {A : Type 0} (o : Option A) → ((x : A) → o ≡ Some x → ⊥) → o ≡ None
 none_where None h = refl
 none_where (Some x) h = absurd (h x refl)
-
-pub mapped-was : {A B : Type 0} (g : A → B) (o : Option A) → IsSome (option_map g o) → IsSome o
-mapped-was g None h = absurd (cc)
-mapped-was g (Some x) h = refl
-
-pub mapped-live : {A B : Type 0} (g : A → B) (o : Option A) → IsSome o → IsSome (option_map g o)
-mapped-live g None h = absurd (cc)
-mapped-live g (Some x) h = refl
-
-pub same_or_other : (t u : Tag) → (t ≡ u) ⊎ (t ≢ u)
-same_or_other t u = ⊎_elim {C = (t ≡ u) ⊎ (t ≢ u)} (λ (l : same_tag t u ≡ true). inl (same_means t u l)) (λ (r : same_tag t u ≡ false). inr (differs_means t u r)) (cases_Bool (same_tag t u))
 
 -- ---- by a test
 

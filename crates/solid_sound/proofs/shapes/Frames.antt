@@ -23,9 +23,10 @@ use Rattle.solid_model.specs.Places.{mate_of, mate_at, vertex_of, start_at}
 use Rattle.solid_model.specs.Links.{is_fin_of}
 use Rattle.solid_model.specs.Sound.{IsWritten, IsMated, ComesAfter, GoesRound, NamesItsKind, class_at, times_in_loops, fins_with_edge, end_of, is_alone_in, loops_alone_at, optional, AreOf}
 use Rattle.list_facts.proofs.Each.{ByRecursion-weaker}
-use Rattle.solid_sound.proofs.lists.Neighbours.{times}
+use Rattle.solid_model.proofs.lists.Neighbours.{times}
 use Rattle.solid_sound.proofs.shapes.Lookups.{put-same, put-other, filter-sorted, filter-kept}
-use Rattle.solid_sound.proofs.shapes.Found.{none_or_some, same_or_other, filter-none, filter-lost}
+use Rattle.solid_sound.proofs.shapes.Found.{none_or_some, filter-none, filter-lost}
+use Rattle.pk_base.proofs.Same.{same_or_other}
 use Rattle.solid_sound.proofs.shapes.Names.{NotAttr}
 use Rattle.solid_sound.proofs.shapes.Numbers.{counts_in}
 use Rattle.solid_sound.proofs.shapes.Sums.{sum-put, sum-left}

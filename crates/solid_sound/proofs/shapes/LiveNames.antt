@@ -24,9 +24,10 @@ use Rattle.solid_model.specs.Sound.{IsWritten, IsSound, AreOf, class_at, optiona
 use Rattle.solid_model.proofs.Written.{links-nothing}
 use Rattle.list_facts.proofs.Elements.{Contains-first, Contains-later}
 use Rattle.list_facts.proofs.Each.{ByRecursion-append, ByRecursion-weaker, ByRecursion-at}
-use Rattle.solid_sound.proofs.shapes.Found.{none_or_some, mapped-was, mapped-live, find-some, find-none, among-item}
+use Rattle.solid_sound.proofs.shapes.Found.{none_or_some, find-some, find-none, among-item}
+use Rattle.solid_model.proofs.Reading.{mapped-was, mapped-live}
 use Rattle.solid_sound.proofs.shapes.Bodies.{item_of_class}
-use Rattle.solid_sound.proofs.lists.Cycles.{last_of-in, written-in, written-first}
+use Rattle.solid_model.proofs.lists.Cycles.{last_of-in, written-in, written-first}
 use Rattle.solid_sound.proofs.shapes.FinRings.{ring_with, ring_owner}
 use Rattle.solid_sound.proofs.rows.RowKeeps.{IsWell}
 use Rattle.solid_sound.proofs.rows.Asked.{get-links}

@@ -10,10 +10,10 @@ use Rattle.std.proofs.lemmas.Option.{same_Some}
 use Rattle.pk_base.specs.declared.tag.Tag.{Tag}
 use Rattle.pk_model.specs.Maps.{tag_cmp}
 use Rattle.pk_model.specs.Apart.{NoRepeats}
-use Rattle.pk_model.proofs.TagLists.{tag_total, ties_itself, ties_no_other, same_from_tie}
+use Rattle.pk_model.proofs.TagLists.{tag_total, ties_itself, ties_no_other, same_from_tie, NoneOf}
 use Rattle.solid_model.specs.Items.{Item, Shape, item_at, ◌with◌}
 use Rattle.list_facts.proofs.Elements.{not_in_nil, Contains-first, Contains-later, Contains-cases}
-use Rattle.solid_sound.proofs.lists.Neighbours.{NoneOf, both_parts, both_from}
+use Rattle.solid_model.proofs.lists.Neighbours.{both_parts, both_from}
 use Rattle.solid_sound.proofs.shapes.Reading.{below_all-differs}
 
 -- ---- one item

@@ -8,7 +8,7 @@ use Rattle.pk_base.specs.declared.entity.Class.TheVariants as class
 use Rattle.solid_model.specs.Items.{Item, class_of_item}
 use Rattle.solid_model.specs.Items.Item.{Body, Shell, Face, Loop, Fin, Edge, Vertex, Attr}
 use Rattle.solid_model.specs.Owners.{same_class}
-use Rattle.solid_sound.proofs.lists.Neighbours.{not_same}
+use Rattle.pk_base.proofs.Same.{not_same}
 use Rattle.solid_sound.proofs.shapes.Names.{NotAttr}
 
 pub attr_or_not : (x : Item) → (class_of_item x ≡ class.Attr) ⊎ NotAttr (class_of_item x)

@@ -16,7 +16,8 @@ use Rattle.pk_base.specs.declared.tag.Tag.{Tag}
 use Rattle.pk_model.specs.Maps.{tag_cmp}
 use Rattle.pk_model.proofs.TagLists.{tag_total, tag_antisymmetric, ties_itself, same_from_tie}
 use Rattle.solid_model.specs.Items.{Item, Shape, item_at}
-use Rattle.solid_sound.proofs.lists.Neighbours.{both_parts, same_itself, not_same}
+use Rattle.solid_model.proofs.lists.Neighbours.{both_parts}
+use Rattle.pk_base.proofs.Same.{same_itself, not_same}
 use Rattle.solid_sound.proofs.shapes.Lookups.{differs-none}
 use Rattle.solid_sound.proofs.shapes.Reading.{below_all-differs}
 

@@ -1,12 +1,12 @@
-use Rattle.std.proofs.Common.{◌≡◌, ◌≤◌, length, refl, sym, ap, subst, ◌∙◌, arith}
+use Rattle.std.proofs.Common.{◌≡◌, length, refl, sym, ap, subst, ◌∙◌, arith}
 use Rattle.std.specs.Prelude.{IsOk}
 use Rattle.std.proofs.lemmas.Bool.{not-false}
 use Rattle.pk_base.specs.Entity.{same_tag}
-use Rattle.solid_model.specs.Euler.{cost_of, list_of}
-use Rattle.solid_model.specs.Rows.{Row}
+use Rattle.solid_model.specs.Rows.{cost_of, Row}
+use Rattle.solid_model.specs.Euler.{list_of}
 use Rattle.solid_model.specs.Shapes.{shape_of}
-use Rattle.solid_sound.proofs.lists.Neighbours.{same_means}
-use Rattle.solid_calls.specs.LinkedRings.{ring_at}
+use Rattle.pk_base.proofs.Same.{same_means}
+use Rattle.halfedge.specs.LinkedRings.{ring_at}
 use Rattle.solid_calls.proofs.Sizes.{few-ring}
 use Rattle.solid_edits.specs.Deaths.{with_attributes}
 use Rattle.euler_kill.proofs.KemrFound.{IsOnBothSides, kemr-is, placed_with}
@@ -34,11 +34,11 @@ returns g c =
     let one : u.loop_ ≡ w.loop_ = same_means u.loop_ w.loop_ (not-false (same_tag u.loop_ w.loop_) (sym c.if-ne.ensures)) in
     let at : IsOnBothSides m f u w = record { sound = c.requires; found = c.in_ok-u.ensures.found; other = c.in_ok-w.ensures.found; one = one; ring = refl; in_ring = c.in_ok-u.ensures.ring } in
     let is = sym (kemr-is (shape_of m) f u w at.found at.other at.one) in
-    let counts = kemr-counts m f u w at in
+    let counts = kemr-counts m f u w at (ap cost_of (sym is)) in
     let dead = c.count_dead-dead.ensures.dead ∙ ap (λ ts. length (with_attributes m ts)) (c.as_slice.ensures ∙ c.edge_of.ensures) in
     record {
       goes = subst (λ (r : Row). IsOk r) is refl;
       tags = ap cost_of is;
       changes = omega (arith, counts, dead, c.ring_len-ring.ensures);
-      list = subst (λ (r : Row). list_of r ≤ 1) is (omega arith);
+      list = ap list_of is;
     }

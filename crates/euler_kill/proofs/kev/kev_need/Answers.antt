@@ -1,5 +1,5 @@
 use Rattle.std.proofs.Common.{length, sym, ap, ◌∙◌}
-use Rattle.solid_calls.specs.LinkedRings.{ring_at}
+use Rattle.halfedge.specs.LinkedRings.{ring_at}
 use Rattle.euler_kill.proofs.KevFound.{has-next, kev-needs, kev-not_strut}
 use Rattle.solid_edits.specs.Deaths.{with_attributes}
 use Rattle.euler_kill.proofs.kev.kev_need.Goals as goal

@@ -3,7 +3,7 @@ use Rattle.std.specs.Prelude.{Contains}
 use Rattle.pk_base.specs.declared.tag.Tag.{Tag}
 use Rattle.pk_base.specs.declared.entity.Entity.{Entity}
 use Rattle.pk_base.specs.declared.entity.Entity.TheVariants as entity
-use Rattle.solid_sound.proofs.lists.Neighbours.{same_itself}
+use Rattle.pk_base.proofs.Same.{same_itself}
 use Rattle.list_facts.proofs.Elements.{Contains-first, Contains-later, Contains-cases}
 use Rattle.euler_kill.proofs.KidsFound.{IsKid, face-of_kid, walked-are, are-walked}
 use Rattle.euler_kill.proofs.kvfs.face_of.Goals as goal

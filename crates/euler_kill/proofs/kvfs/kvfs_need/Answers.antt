@@ -1,9 +1,8 @@
-use Rattle.std.proofs.Common.{◌≤◌, length, sym, ap, subst, ◌∙◌, rules, arith}
-use Rattle.solid_model.specs.Owners.{all_in_body}
+use Rattle.std.proofs.Common.{length, sym, ap, subst, ◌∙◌, rules, arith}
 use Rattle.solid_model.specs.Shapes.{shape_of}
-use Rattle.solid_edits.specs.BareParts.{tags_of_parts}
 use Rattle.solid_edits.specs.Deaths.{with_attributes}
-use Rattle.euler_kill.proofs.KvfsFound.{IsBare, is-bare, few-in_body}
+use Rattle.euler_kill.proofs.KvfsDone.{kvfs-counts}
+use Rattle.euler_kill.proofs.KvfsFound.{IsBare, is-bare}
 use Rattle.euler_kill.proofs.kvfs.kvfs_need.Goals as goal
 
 pub returns : goal.returns
@@ -13,12 +12,11 @@ returns g c =
     let p = c.parts_of-parts.result in
     let same = c.parts_of-parts.ensures.body in
     let bare = is-bare S c.args.body (sym c.has_more.ensures ∙ c.if-has_more.false) in
-    let few = few-in_body m c.requires p c.parts_of-parts.ensures.parts (subst (IsBare S) (sym same) bare) in
-    let room = subst (λ b. length (all_in_body S b) ≤ length (with_attributes m (tags_of_parts p))) same few in
+    let counts = kvfs-counts m c.requires p c.parts_of-parts.ensures.parts (subst (IsBare S) (sym same) bare) c.args.body same in
     let dead = c.count_dead.ensures.dead ∙ ap (λ ts. length (with_attributes m ts)) (c.as_slice.ensures ∙ c.tags_of.ensures) in
     record {
       goes = search rules;
       tags = search rules;
-      changes = omega (arith, room, dead);
+      changes = omega (arith, counts, dead);
       list = search rules;
     }

@@ -1,6 +1,6 @@
 -- A ring has no more fins than a store has tags.
 use Rattle.std.proofs.Common.{arith}
-use Rattle.solid_calls.specs.LinkedRings.{ring_at}
+use Rattle.halfedge.specs.LinkedRings.{ring_at}
 use Rattle.solid_calls.proofs.Sizes.{few-ring}
 use Rattle.euler_make.proofs.mef.mef_need.Goals as goal
 

@@ -1,38 +1,36 @@
-use Rattle.std.proofs.Common.{◌≡◌, ◌≤◌, false, refl, sym, ap, subst, ◌∙◌, arith}
+use Rattle.std.proofs.Common.{◌≡◌, false, refl, sym, ap, subst, ◌∙◌, arith}
 use Rattle.std.specs.Prelude.{IsOk}
 use Rattle.std.proofs.lemmas.Bool.{not-false}
 use Rattle.pk_base.specs.Entity.{same_tag}
-use Rattle.solid_model.specs.Euler.{cost_of, list_of}
+use Rattle.solid_model.specs.Rows.{cost_of, Row}
+use Rattle.solid_model.specs.Euler.{list_of}
 use Rattle.solid_model.specs.Places.{outer_at}
-use Rattle.solid_model.specs.Rows.{Row}
 use Rattle.solid_model.specs.Shapes.{shape_of}
-use Rattle.solid_calls.specs.LinkedRings.{ring_of_any}
+use Rattle.halfedge.specs.LinkedRings.{ring_of_any}
 use Rattle.solid_calls.proofs.Sizes.{few-attributes, few-ring}
-use Rattle.solid_calls.proofs.LinkedRings.{any_ring}
+use Rattle.halfedge.proofs.LinkedRings.{any_ring}
+use Rattle.halfedge.proofs.Ends.{length-ends}
+use Rattle.euler_make.proofs.FinsBeside.{beside-ends}
 use Rattle.euler_make.proofs.MekrFound.{AreApart, AreEnds, end_with, mekr-is}
 use Rattle.euler_make.proofs.MekrReached.{mekr-counts}
 use Rattle.euler_make.proofs.mekr.mekr_need.Goals as goal
 
-pub overflow_add-result : goal.overflow_add-result
-overflow_add-result g c =
-    let s = c.args.store.now.state in
-    let kept = few-ring s c.blocks-blocks.ensures.ascending c.blocks-blocks.ensures.range c.blocks-blocks.ensures.hosted (ring_of_any s.map c.in_ok-u.u.first) (any_ring s.map c.in_ok-u.u.first c.in_ok-u.ensures.ring) in
-    omega (arith, kept, c.len_of_any-kept.ensures)
-
 pub overflow_add-result-2 : goal.overflow_add-result-2
 overflow_add-result-2 g c =
     let s = c.args.store.now.state in
-    let kept = few-ring s c.blocks-blocks.ensures.ascending c.blocks-blocks.ensures.range c.blocks-blocks.ensures.hosted (ring_of_any s.map c.in_ok-u.u.first) (any_ring s.map c.in_ok-u.u.first c.in_ok-u.ensures.ring) in
+    let beside = beside-ends s.map c.in_ok-u.u.first c.number_beside-beside.result c.in_ok-u.ensures.ring c.number_beside-beside.ensures in
+    let two = length-ends (ring_of_any s.map c.in_ok-u.u.first) in
     let joined = few-ring s c.blocks-blocks.ensures.ascending c.blocks-blocks.ensures.range c.blocks-blocks.ensures.hosted (ring_of_any s.map c.in_ok-v.v.first) (any_ring s.map c.in_ok-v.v.first c.in_ok-v.ensures.ring) in
-    omega (arith, kept, joined, c.len_of_any-kept.ensures, c.len_of_any-joined.ensures)
+    omega (arith, beside, two, joined, c.len_of_any-joined.ensures)
 
 pub overflow_add-result-3 : goal.overflow_add-result-3
 overflow_add-result-3 g c =
     let s = c.args.store.now.state in
-    let kept = few-ring s c.blocks-blocks.ensures.ascending c.blocks-blocks.ensures.range c.blocks-blocks.ensures.hosted (ring_of_any s.map c.in_ok-u.u.first) (any_ring s.map c.in_ok-u.u.first c.in_ok-u.ensures.ring) in
+    let beside = beside-ends s.map c.in_ok-u.u.first c.number_beside-beside.result c.in_ok-u.ensures.ring c.number_beside-beside.ensures in
+    let two = length-ends (ring_of_any s.map c.in_ok-u.u.first) in
     let joined = few-ring s c.blocks-blocks.ensures.ascending c.blocks-blocks.ensures.range c.blocks-blocks.ensures.hosted (ring_of_any s.map c.in_ok-v.v.first) (any_ring s.map c.in_ok-v.v.first c.in_ok-v.ensures.ring) in
     let dead = few-attributes s c.blocks-blocks.ensures.ascending c.blocks-blocks.ensures.range c.blocks-blocks.ensures.hosted c.in_ok-v.v.loop_ in
-    omega (arith, kept, joined, dead, c.len_of_any-kept.ensures, c.len_of_any-joined.ensures, c.count_attributes-dead.ensures)
+    omega (arith, beside, two, joined, dead, c.len_of_any-joined.ensures, c.count_attributes-dead.ensures)
 
 pub returns : goal.returns
 returns g c =
@@ -57,9 +55,10 @@ returns g c =
     } in
     let is = sym (mekr-is (shape_of m) k r u v at.found at.other apart) in
     let counts = mekr-counts m k r u v x.first y.first at in
+    let beside = beside-ends m x.first c.number_beside-beside.result c.in_ok-u.ensures.ring c.number_beside-beside.ensures in
     record {
       goes = subst (λ (o : Row). IsOk o) is refl;
       tags = ap cost_of is;
-      changes = omega (arith, counts, c.len_of_any-kept.ensures, c.len_of_any-joined.ensures, c.count_attributes-dead.ensures);
-      list = subst (λ (o : Row). list_of o ≤ 3) is (omega arith);
+      changes = omega (arith, counts, beside, c.len_of_any-joined.ensures, c.count_attributes-dead.ensures);
+      list = ap list_of is;
     }

@@ -1,97 +1,69 @@
+use Rattle.std.proofs.Common.{sym, subst, arith}
 use Rattle.entity_store.specs.NextTags.{left}
-use Rattle.euler_make.proofs.MevDone.{back-alone, face-other, face-owned, loop-owned, loop-ring, loop-room, mev-done, out-alone, pair-apart, pair-room, ring-put, strut-apart, strut-owned, strut-put, strut-room}
-use Rattle.euler_make.proofs.MevFound.{ready-viewed}
+use Rattle.solid_model.specs.Shapes.{shape_of}
+use Rattle.solid_calls.specs.Pairs.{Takes}
+use Rattle.euler_make.proofs.MevDone.{edge-other, edge-owned, edge-room, fin-other, least-is, loop-hosted, loop-is, loop-owned, loop-room, mate-other, mev-done, pair-apart, pair-fins, pair-room, ring-put, vertex-hosted, vertex-room}
+use Rattle.euler_make.proofs.MevFound.{mev-cost, ready-viewed}
 use Rattle.euler_make.proofs.mev.mev_do.Goals as goal
 
-pub put_strut-requires-clause-owned : goal.put_strut-requires-clause-owned
-put_strut-requires-clause-owned g c =
-    let r = ready-viewed c.in-Ok.place c.take_strut-strut.result (left c.take_strut-strut.new.tags) c.requires.may c.requires.tags c.view.ensures c.view-2.ensures c.blocks-blocks.ensures.hosted c.in-Ok.ensures.found c.in-Ok.ensures.ring c.take_strut-strut.ensures.tags in
-    strut-owned r
+pub take_strut-strut-requires : goal.take_strut-strut-requires
+take_strut-strut-requires g c =
+    let cost = mev-cost (shape_of c.args.rec.now.store.now.state.map) c.args.end c.args.at c.requires.may.goes in
+    let enough = c.requires.tags.enough in
+    let spare = c.requires.tags.spare in
+    record { enough = omega (arith, cost, enough); spare = omega (arith, cost, spare) }
 
-pub put_strut-requires-clause-apart : goal.put_strut-requires-clause-apart
-put_strut-requires-clause-apart g c =
+pub first_fin-first-requires : goal.first_fin-first-requires
+first_fin-first-requires g c =
     let r = ready-viewed c.in-Ok.place c.take_strut-strut.result (left c.take_strut-strut.new.tags) c.requires.may c.requires.tags c.view.ensures c.view-2.ensures c.blocks-blocks.ensures.hosted c.in-Ok.ensures.found c.in-Ok.ensures.ring c.take_strut-strut.ensures.tags in
-    strut-apart r
+    loop-is r c.view-3.result.now c.view-3.ensures
 
-pub put_strut-requires-clause-room : goal.put_strut-requires-clause-room
-put_strut-requires-clause-room g c =
+pub put-requires : goal.put-requires
+put-requires g c =
     let r = ready-viewed c.in-Ok.place c.take_strut-strut.result (left c.take_strut-strut.new.tags) c.requires.may c.requires.tags c.view.ensures c.view-2.ensures c.blocks-blocks.ensures.hosted c.in-Ok.ensures.found c.in-Ok.ensures.ring c.take_strut-strut.ensures.tags in
-    strut-room r
+    let hosted = vertex-hosted r c.point_of.result in
+    record { owned = hosted.owned; hosted = hosted; room = vertex-room r }
 
-pub insert_pair-requires-clause-at : goal.insert_pair-requires-clause-at
-insert_pair-requires-clause-at g c =
+pub put_edge-requires : goal.put_edge-requires
+put_edge-requires g c =
     let r = ready-viewed c.in-Ok.place c.take_strut-strut.result (left c.take_strut-strut.new.tags) c.requires.may c.requires.tags c.view.ensures c.view-2.ensures c.blocks-blocks.ensures.hosted c.in-Ok.ensures.found c.in-Ok.ensures.ring c.take_strut-strut.ensures.tags in
-    let p = strut-put r c.put_strut.new.rec.store.now c.point_of.result c.point_of.ensures c.put_strut.ensures.state c.put_strut.ensures.puts in
-    (ring-put r c.put_strut.new.rec.store.now p).1
+    record {
+      owned = edge-owned r c.point_of.result c.point_of.ensures c.put.new.self.store.now c.put.ensures.state c.put.ensures.began c.put.ensures.recorded;
+      edge = edge-other r;
+      fin = fin-other r;
+      mate = mate-other r;
+      room = edge-room r c.point_of.result c.point_of.ensures c.put.new.self.store.now c.put.ensures.state c.put.ensures.began c.put.ensures.recorded;
+    }
 
-pub insert_pair-requires-clause-out : goal.insert_pair-requires-clause-out
-insert_pair-requires-clause-out g c =
+pub insert_pair-requires : goal.insert_pair-requires
+insert_pair-requires g c =
     let r = ready-viewed c.in-Ok.place c.take_strut-strut.result (left c.take_strut-strut.new.tags) c.requires.may c.requires.tags c.view.ensures c.view-2.ensures c.blocks-blocks.ensures.hosted c.in-Ok.ensures.found c.in-Ok.ensures.ring c.take_strut-strut.ensures.tags in
-    let p = strut-put r c.put_strut.new.rec.store.now c.point_of.result c.point_of.ensures c.put_strut.ensures.state c.put_strut.ensures.puts in
-    out-alone r c.put_strut.new.rec.store.now p
+    let alone = pair-fins r c.point_of.result c.point_of.ensures c.put.new.self.store.now c.put.ensures.state c.put.ensures.began c.put.ensures.recorded c.put_edge.new.rec.store.now c.put_edge.ensures.state c.put_edge.ensures.puts in
+    record {
+      at = (ring-put r c.point_of.result c.point_of.ensures c.put.new.self.store.now c.put.ensures.state c.put.ensures.began c.put.ensures.recorded c.put_edge.new.rec.store.now c.put_edge.ensures.state c.put_edge.ensures.puts).1;
+      ring = tt;
+      out = alone.0;
+      back = alone.1;
+      apart = pair-apart r c.point_of.result c.point_of.ensures c.put.new.self.store.now c.put.ensures.state c.put.ensures.began c.put.ensures.recorded c.put_edge.new.rec.store.now c.put_edge.ensures.state c.put_edge.ensures.puts;
+      room = pair-room r c.point_of.result c.point_of.ensures c.put.new.self.store.now c.put.ensures.state c.put.ensures.began c.put.ensures.recorded c.put_edge.new.rec.store.now c.put_edge.ensures.state c.put_edge.ensures.puts;
+    }
 
-pub insert_pair-requires-clause-back : goal.insert_pair-requires-clause-back
-insert_pair-requires-clause-back g c =
+pub put-requires-2 : goal.put-requires-2
+put-requires-2 g c =
     let r = ready-viewed c.in-Ok.place c.take_strut-strut.result (left c.take_strut-strut.new.tags) c.requires.may c.requires.tags c.view.ensures c.view-2.ensures c.blocks-blocks.ensures.hosted c.in-Ok.ensures.found c.in-Ok.ensures.ring c.take_strut-strut.ensures.tags in
-    let p = strut-put r c.put_strut.new.rec.store.now c.point_of.result c.point_of.ensures c.put_strut.ensures.state c.put_strut.ensures.puts in
-    back-alone r c.put_strut.new.rec.store.now p
-
-pub insert_pair-requires-clause-apart : goal.insert_pair-requires-clause-apart
-insert_pair-requires-clause-apart g c =
-    let r = ready-viewed c.in-Ok.place c.take_strut-strut.result (left c.take_strut-strut.new.tags) c.requires.may c.requires.tags c.view.ensures c.view-2.ensures c.blocks-blocks.ensures.hosted c.in-Ok.ensures.found c.in-Ok.ensures.ring c.take_strut-strut.ensures.tags in
-    let p = strut-put r c.put_strut.new.rec.store.now c.point_of.result c.point_of.ensures c.put_strut.ensures.state c.put_strut.ensures.puts in
-    pair-apart r c.put_strut.new.rec.store.now p
-
-pub insert_pair-requires-clause-room : goal.insert_pair-requires-clause-room
-insert_pair-requires-clause-room g c =
-    let r = ready-viewed c.in-Ok.place c.take_strut-strut.result (left c.take_strut-strut.new.tags) c.requires.may c.requires.tags c.view.ensures c.view-2.ensures c.blocks-blocks.ensures.hosted c.in-Ok.ensures.found c.in-Ok.ensures.ring c.take_strut-strut.ensures.tags in
-    let p = strut-put r c.put_strut.new.rec.store.now c.point_of.result c.point_of.ensures c.put_strut.ensures.state c.put_strut.ensures.puts in
-    pair-room r c.put_strut.new.rec.store.now p
-
-pub put_loop-requires-clause-ring : goal.put_loop-requires-clause-ring
-put_loop-requires-clause-ring g c =
-    let r = ready-viewed c.in-Ok.place c.take_strut-strut.result (left c.take_strut-strut.new.tags) c.requires.may c.requires.tags c.view.ensures c.view-2.ensures c.blocks-blocks.ensures.hosted c.in-Ok.ensures.found c.in-Ok.ensures.ring c.take_strut-strut.ensures.tags in
-    let s1 = c.put_strut.new.rec.store.now in
-    let p = strut-put r s1 c.point_of.result c.point_of.ensures c.put_strut.ensures.state c.put_strut.ensures.puts in
-    let s2 = c.insert_pair.new.rec.store.now in
-    loop-ring r s1 p s2 c.insert_pair.ensures.links c.insert_pair.ensures.state c.insert_pair.ensures.puts
-
-pub put_loop-requires-clause-owned : goal.put_loop-requires-clause-owned
-put_loop-requires-clause-owned g c =
-    let r = ready-viewed c.in-Ok.place c.take_strut-strut.result (left c.take_strut-strut.new.tags) c.requires.may c.requires.tags c.view.ensures c.view-2.ensures c.blocks-blocks.ensures.hosted c.in-Ok.ensures.found c.in-Ok.ensures.ring c.take_strut-strut.ensures.tags in
-    let s1 = c.put_strut.new.rec.store.now in
-    let p = strut-put r s1 c.point_of.result c.point_of.ensures c.put_strut.ensures.state c.put_strut.ensures.puts in
-    let s2 = c.insert_pair.new.rec.store.now in
-    loop-owned r s1 p s2 c.insert_pair.ensures.links c.insert_pair.ensures.state c.insert_pair.ensures.puts
-
-pub put_loop-requires-clause-face_owned : goal.put_loop-requires-clause-face_owned
-put_loop-requires-clause-face_owned g c =
-    let r = ready-viewed c.in-Ok.place c.take_strut-strut.result (left c.take_strut-strut.new.tags) c.requires.may c.requires.tags c.view.ensures c.view-2.ensures c.blocks-blocks.ensures.hosted c.in-Ok.ensures.found c.in-Ok.ensures.ring c.take_strut-strut.ensures.tags in
-    let s1 = c.put_strut.new.rec.store.now in
-    let p = strut-put r s1 c.point_of.result c.point_of.ensures c.put_strut.ensures.state c.put_strut.ensures.puts in
-    let s2 = c.insert_pair.new.rec.store.now in
-    face-owned r s1 p s2 c.insert_pair.ensures.links c.insert_pair.ensures.state c.insert_pair.ensures.puts
-
-pub put_loop-requires-clause-other : goal.put_loop-requires-clause-other
-put_loop-requires-clause-other g c =
-    let r = ready-viewed c.in-Ok.place c.take_strut-strut.result (left c.take_strut-strut.new.tags) c.requires.may c.requires.tags c.view.ensures c.view-2.ensures c.blocks-blocks.ensures.hosted c.in-Ok.ensures.found c.in-Ok.ensures.ring c.take_strut-strut.ensures.tags in
-    let s1 = c.put_strut.new.rec.store.now in
-    let p = strut-put r s1 c.point_of.result c.point_of.ensures c.put_strut.ensures.state c.put_strut.ensures.puts in
-    let s2 = c.insert_pair.new.rec.store.now in
-    face-other r s1 p s2 c.insert_pair.ensures.links c.insert_pair.ensures.state c.insert_pair.ensures.puts
-
-pub put_loop-requires-clause-room : goal.put_loop-requires-clause-room
-put_loop-requires-clause-room g c =
-    let r = ready-viewed c.in-Ok.place c.take_strut-strut.result (left c.take_strut-strut.new.tags) c.requires.may c.requires.tags c.view.ensures c.view-2.ensures c.blocks-blocks.ensures.hosted c.in-Ok.ensures.found c.in-Ok.ensures.ring c.take_strut-strut.ensures.tags in
-    let s1 = c.put_strut.new.rec.store.now in
-    let p = strut-put r s1 c.point_of.result c.point_of.ensures c.put_strut.ensures.state c.put_strut.ensures.puts in
-    let s2 = c.insert_pair.new.rec.store.now in
-    loop-room r s1 p s2 c.insert_pair.ensures.links c.insert_pair.ensures.state c.insert_pair.ensures.puts
+    record {
+      owned = loop-owned r c.point_of.result c.point_of.ensures c.put.new.self.store.now c.put.ensures.state c.put.ensures.began c.put.ensures.recorded c.put_edge.new.rec.store.now c.put_edge.ensures.state c.put_edge.ensures.puts c.insert_pair.new.rec.store.now c.insert_pair.ensures.links c.insert_pair.ensures.state c.insert_pair.ensures.puts;
+      hosted = loop-hosted r c.point_of.result c.point_of.ensures c.put.new.self.store.now c.put.ensures.state c.put.ensures.began c.put.ensures.recorded c.put_edge.new.rec.store.now c.put_edge.ensures.state c.put_edge.ensures.puts c.insert_pair.new.rec.store.now c.insert_pair.ensures.links c.insert_pair.ensures.state c.insert_pair.ensures.puts c.lesser_of.result;
+      room = loop-room r c.point_of.result c.point_of.ensures c.put.new.self.store.now c.put.ensures.state c.put.ensures.began c.put.ensures.recorded c.put_edge.new.rec.store.now c.put_edge.ensures.state c.put_edge.ensures.puts c.insert_pair.new.rec.store.now c.insert_pair.ensures.links c.insert_pair.ensures.state c.insert_pair.ensures.puts;
+    }
 
 pub returns-clause-done : goal.returns-clause-done
 returns-clause-done g c =
     let r = ready-viewed c.in-Ok.place c.take_strut-strut.result (left c.take_strut-strut.new.tags) c.requires.may c.requires.tags c.view.ensures c.view-2.ensures c.blocks-blocks.ensures.hosted c.in-Ok.ensures.found c.in-Ok.ensures.ring c.take_strut-strut.ensures.tags in
-    let s1 = c.put_strut.new.rec.store.now in
-    let p = strut-put r s1 c.point_of.result c.point_of.ensures c.put_strut.ensures.state c.put_strut.ensures.puts in
-    let s2 = c.insert_pair.new.rec.store.now in
-    mev-done r s1 p s2 c.insert_pair.ensures.links c.insert_pair.ensures.state c.insert_pair.ensures.puts c.put_loop.new.rec.store.now c.put_loop.ensures.state c.put_loop.ensures.puts
+    let low = least-is r c.view-3.result.now c.first_fin-first.result c.lesser_of.result c.view-3.ensures c.first_fin-first.ensures c.lesser_of.ensures in
+    mev-done r c.point_of.result c.point_of.ensures c.put.new.self.store.now c.put.ensures.state c.put.ensures.began c.put.ensures.recorded c.put_edge.new.rec.store.now c.put_edge.ensures.state c.put_edge.ensures.puts c.insert_pair.new.rec.store.now c.insert_pair.ensures.links c.insert_pair.ensures.state c.insert_pair.ensures.puts c.lesser_of.result low c.put-2.new.self.store.now c.put-2.ensures.state c.put-2.ensures.began c.put-2.ensures.recorded
+
+pub returns-clause-takes : goal.returns-clause-takes
+returns-clause-takes g c =
+    let cost = mev-cost (shape_of c.args.rec.now.store.now.state.map) c.args.end c.args.at c.requires.may.goes in
+    subst (λ n. Takes n c.args.tags.now c.args.out.now c.take_strut-strut.new.tags c.take_strut-strut.new.out) (sym cost) c.take_strut-strut.ensures.takes

@@ -1,22 +1,22 @@
+use Rattle.std.proofs.Common.{sym, subst, arith}
 use Rattle.entity_store.specs.NextTags.{left}
-use Rattle.euler_make.proofs.MfkrhDone.{face-hosted, face-owned, face-room, loop-is, loop-other, loop-owned, mfkrh-done, shell-is, shell-room}
-use Rattle.euler_make.proofs.MfkrhFound.{ready-viewed}
+use Rattle.solid_model.specs.Shapes.{shape_of}
+use Rattle.solid_calls.specs.Pairs.{Takes}
+use Rattle.euler_make.proofs.MfkrhDone.{face-hosted, face-owned, face-room, loop-is, loop-other, loop-owned, loop-room, mfkrh-done, shell-is, shell-room}
+use Rattle.euler_make.proofs.MfkrhFound.{mfkrh-cost, ready-viewed}
 use Rattle.euler_make.proofs.mfkrh.mfkrh_do.Goals as goal
 
-pub put-requires-clause-owned : goal.put-requires-clause-owned
-put-requires-clause-owned g c =
-    let r = ready-viewed c.in-Ok.placed c.take_tag-face.result (left c.take_tag-face.new.tags) c.requires.may c.requires.tags c.view.ensures c.view-2.ensures c.blocks-blocks.ensures.ascending c.blocks-blocks.ensures.range c.blocks-blocks.ensures.hosted c.in-Ok.ensures.found c.take_tag-face.ensures.tag in
-    face-owned r
+pub take_tag-face-requires : goal.take_tag-face-requires
+take_tag-face-requires g c =
+    let cost = mfkrh-cost (shape_of c.args.rec.now.store.now.state.map) c.args.ring c.requires.may.goes in
+    let enough = c.requires.tags.enough in
+    let spare = c.requires.tags.spare in
+    record { enough = omega (arith, cost, enough); spare = omega (arith, cost, spare) }
 
-pub put-requires-clause-hosted : goal.put-requires-clause-hosted
-put-requires-clause-hosted g c =
+pub put-requires : goal.put-requires
+put-requires g c =
     let r = ready-viewed c.in-Ok.placed c.take_tag-face.result (left c.take_tag-face.new.tags) c.requires.may c.requires.tags c.view.ensures c.view-2.ensures c.blocks-blocks.ensures.ascending c.blocks-blocks.ensures.range c.blocks-blocks.ensures.hosted c.in-Ok.ensures.found c.take_tag-face.ensures.tag in
-    face-hosted r
-
-pub put-requires-clause-room : goal.put-requires-clause-room
-put-requires-clause-room g c =
-    let r = ready-viewed c.in-Ok.placed c.take_tag-face.result (left c.take_tag-face.new.tags) c.requires.may c.requires.tags c.view.ensures c.view-2.ensures c.blocks-blocks.ensures.ascending c.blocks-blocks.ensures.range c.blocks-blocks.ensures.hosted c.in-Ok.ensures.found c.take_tag-face.ensures.tag in
-    face-room r
+    record { owned = face-owned r; hosted = face-hosted r; room = face-room r }
 
 pub give_loop-requires-clause-is : goal.give_loop-requires-clause-is
 give_loop-requires-clause-is g c =
@@ -35,6 +35,12 @@ give_loop-requires-clause-other g c =
     let r = ready-viewed c.in-Ok.placed c.take_tag-face.result (left c.take_tag-face.new.tags) c.requires.may c.requires.tags c.view.ensures c.view-2.ensures c.blocks-blocks.ensures.ascending c.blocks-blocks.ensures.range c.blocks-blocks.ensures.hosted c.in-Ok.ensures.found c.take_tag-face.ensures.tag in
     let s1 = c.put.new.self.store.now in
     loop-other r s1 c.put.ensures.state c.put.ensures.began c.put.ensures.recorded
+
+pub give_loop-requires-clause-room : goal.give_loop-requires-clause-room
+give_loop-requires-clause-room g c =
+    let r = ready-viewed c.in-Ok.placed c.take_tag-face.result (left c.take_tag-face.new.tags) c.requires.may c.requires.tags c.view.ensures c.view-2.ensures c.blocks-blocks.ensures.ascending c.blocks-blocks.ensures.range c.blocks-blocks.ensures.hosted c.in-Ok.ensures.found c.take_tag-face.ensures.tag in
+    let s1 = c.put.new.self.store.now in
+    loop-room r s1 c.put.ensures.state c.put.ensures.began c.put.ensures.recorded
 
 pub add_q-requires-clause-is : goal.add_q-requires-clause-is
 add_q-requires-clause-is g c =
@@ -56,3 +62,8 @@ returns-clause-done g c =
     let s1 = c.put.new.self.store.now in
     let s2 = c.give_loop.new.rec.store.now in
     mfkrh-done r s1 c.put.ensures.state c.put.ensures.began c.put.ensures.recorded s2 c.give_loop.ensures.state c.give_loop.ensures.puts c.add_q.new.rec.store.now c.add_q.ensures.state c.add_q.ensures.puts
+
+pub returns-clause-takes : goal.returns-clause-takes
+returns-clause-takes g c =
+    let cost = mfkrh-cost (shape_of c.args.rec.now.store.now.state.map) c.args.ring c.requires.may.goes in
+    subst (λ n. Takes n c.args.tags.now c.args.out.now c.take_tag-face.new.tags c.take_tag-face.new.out) (sym cost) c.take_tag-face.ensures.takes

@@ -1,6 +1,6 @@
 use Rattle.std.proofs.Common.{[], ◌∷◌}
 use Rattle.solid_edits.specs.BareParts.{tags_of_parts}
-use Rattle.solid_calls.proofs.Room.{room-for_one, room-after, puts-one, puts-then}
+use Rattle.entity_store.proofs.Room.{room-for_one, room-after, puts-one, puts-then}
 use Rattle.list_facts.proofs.Elements.{Contains-first, Contains-later}
 use Rattle.euler_make.proofs.mvfs.put_parts.Goals as goal
 

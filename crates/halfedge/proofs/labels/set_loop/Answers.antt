@@ -3,7 +3,7 @@ use Rattle.std.specs.Prelude.{◌∷◌, []}
 use Rattle.std.specs.FinMap.{get}
 use Rattle.pk_base.specs.declared.entity.Entity.TheVariants as entity
 use Rattle.list_facts.proofs.Elements.{Contains-first}
-use Rattle.solid_calls.proofs.Room.{room-for_one, puts-one}
+use Rattle.entity_store.proofs.Room.{room-for_one, puts-one}
 use Rattle.halfedge.proofs.FinLinks.{hosts-viewed, hosted-loop, sets-loop}
 use Rattle.halfedge.proofs.labels.set_loop.Goals as goal
 

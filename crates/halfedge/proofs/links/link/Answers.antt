@@ -1,5 +1,5 @@
 use Rattle.std.specs.Prelude.{[], ◌∷◌}
-use Rattle.solid_calls.proofs.Room.{puts-wider}
+use Rattle.entity_store.proofs.Room.{puts-wider}
 use Rattle.list_facts.proofs.Elements.{Contains-first, Contains-later}
 use Rattle.halfedge.proofs.Among.{has-one, puts-both, room-next}
 use Rattle.halfedge.proofs.links.link.Goals as goal

@@ -1,7 +1,7 @@
 use Rattle.std.proofs.Common.{sym, ap, subst, ◌∙◌}
 use Rattle.std.specs.Prelude.{IsSome}
 use Rattle.entity_store.specs.Store.{StoreView}
-use Rattle.solid_calls.specs.LinkedRings.{prev_at}
+use Rattle.halfedge.specs.LinkedRings.{prev_at}
 use Rattle.halfedge.proofs.RingFins.{in-ring_next, in-ring_prev, in-ring_before}
 use Rattle.halfedge.proofs.Joined.{joined-live}
 use Rattle.halfedge.proofs.Among.{room-one, room-other, puts-spliced}

@@ -1,7 +1,7 @@
 use Rattle.std.proofs.Common.{sym, ap, subst, ◌∙◌}
 use Rattle.std.specs.Prelude.{IsSome}
 use Rattle.entity_store.specs.Store.{StoreView}
-use Rattle.solid_calls.specs.LinkedRings.{next_at}
+use Rattle.halfedge.specs.LinkedRings.{next_at}
 use Rattle.halfedge.proofs.RingFins.{in-ring_next, in-ring_after}
 use Rattle.halfedge.proofs.links.unhook.Goals as goal
 

@@ -1,7 +1,7 @@
 use Rattle.std.proofs.Common.{sym, ap, subst, ◌∙◌}
 use Rattle.entity_store.specs.Store.{StoreView}
 use Rattle.solid_model.specs.Rings.{first_tag, from_least}
-use Rattle.solid_calls.specs.LinkedRings.{IsInRing, ring_at}
+use Rattle.halfedge.specs.LinkedRings.{IsInRing, ring_at}
 use Rattle.halfedge.proofs.RingFins.{in-ring_next}
 use Rattle.halfedge.proofs.Walks.{Least, same-tags, other-tags, walk-live, walk-less, least-first, least-on, least-all, lesser-below, lesser-not_below}
 use Rattle.halfedge.proofs.read.least_fin.Goals as goal

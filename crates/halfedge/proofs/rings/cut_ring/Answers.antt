@@ -2,9 +2,9 @@ use Rattle.std.proofs.Common.{◌≡◌, [], ◌∷◌, drop, sym, ap, subst, �
 use Rattle.std.specs.Prelude.{Contains}
 use Rattle.solid_model.specs.Rings.{before, from}
 use Rattle.entity_store.specs.Store.{StoreView}
-use Rattle.solid_calls.specs.LinkedRings.{Relinks, mate_in, ring_at}
-use Rattle.solid_calls.specs.Room.{HasRoomForThese, PutsAmong}
-use Rattle.solid_calls.proofs.LinkedRings.{in-ring_of}
+use Rattle.halfedge.specs.LinkedRings.{Relinks, mate_in, ring_at}
+use Rattle.entity_store.specs.Room.{HasRoomForThese, PutsAmong}
+use Rattle.halfedge.proofs.LinkedRings.{in-ring_of}
 use Rattle.halfedge.proofs.Ends.{two_and_ends}
 use Rattle.halfedge.proofs.Stages.{parted-at, in-first, room-two, room-unhooked}
 use Rattle.halfedge.proofs.Cut.{cut_fins, cut-start, cut-parted, cut-one_out, cut-both_out, cut-relinks, cut-puts, has-parts, has-first, has-second}

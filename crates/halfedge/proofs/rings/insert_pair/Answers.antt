@@ -1,9 +1,9 @@
 use Rattle.std.proofs.Common.{[], ◌∷◌, Option, subst}
 use Rattle.std.specs.Prelude.{IfSome}
 use Rattle.pk_base.specs.declared.tag.Tag.{Tag}
-use Rattle.solid_calls.specs.LinkedRings.{IsInRing}
-use Rattle.solid_calls.specs.Room.{HasRoomForThese}
-use Rattle.solid_calls.proofs.LinkedRings.{in-ring_from}
+use Rattle.halfedge.specs.LinkedRings.{IsInRing}
+use Rattle.entity_store.specs.Room.{HasRoomForThese}
+use Rattle.halfedge.proofs.LinkedRings.{in-ring_from}
 use Rattle.halfedge.specs.Splices.{spliced}
 use Rattle.halfedge.proofs.Ends.{two-first, two-second, two-ends, two-other_ends}
 use Rattle.halfedge.proofs.Stages.{in-first, in-second, ring-appended, room-appended, room-one}

@@ -2,8 +2,8 @@ use Rattle.std.proofs.Common.{◌≡◌, [], ◌∷◌, ◌++◌, drop, sym, ap,
 use Rattle.std.specs.Prelude.{IsSome}
 use Rattle.pk_model.specs.Apart.{NoRepeats}
 use Rattle.entity_store.specs.Store.{StoreView}
-use Rattle.solid_calls.specs.LinkedRings.{IsInRing, Relinks, next_at, mate_in, ring_at}
-use Rattle.solid_calls.specs.Room.{HasRoomForThese, PutsAmong}
+use Rattle.halfedge.specs.LinkedRings.{IsInRing, Relinks, next_at, mate_in, ring_at}
+use Rattle.entity_store.specs.Room.{HasRoomForThese, PutsAmong}
 use Rattle.halfedge.proofs.RingFins.{in-ring_next}
 use Rattle.halfedge.proofs.Ends.{two_and_ends}
 use Rattle.halfedge.proofs.Stages.{in-first, room-one, room-unhooked}

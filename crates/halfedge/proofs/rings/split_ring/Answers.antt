@@ -1,5 +1,5 @@
 use Rattle.std.proofs.Common.{sym}
-use Rattle.solid_calls.proofs.LinkedRings.{in-ring_of}
+use Rattle.halfedge.proofs.LinkedRings.{in-ring_of}
 use Rattle.halfedge.proofs.Stages.{parted-at, in-first, in-second, room-one, room-two}
 use Rattle.halfedge.proofs.Split.{split_fins, split-start, split-parted, split-one_done, split-done, split-relinks, split-puts, has-parts, has-first_x, has-second_y}
 use Rattle.halfedge.proofs.rings.split_ring.Goals as goal

@@ -1,71 +1,74 @@
+use Rattle.std.proofs.Common.{◌≡◌, of_z, rules, subst, to_z, w64}
+use Rattle.pk_base.specs.declared.call.Call.TheVariants.{SetAttr}
+use Rattle.solid_calls.specs.Pairs.{HasDone}
 use Rattle.entity_store.specs.NextTags.{left}
 use Rattle.solid_model.specs.Shapes.{shape_of}
-use Rattle.modeller.proofs.Performing.{done-as, done-changing, may-as, tags-making, takes-changing, takes-making}
-use Rattle.solid_calls.proofs.RowKinds.{drop-changes, kef-changes, kemr-makes, kev-changes, kfmrh-changes, kvfs-changes, mef-makes, mekr-makes, mev-makes, mfkrh-makes, mvfs-makes, ringmove-changes}
+use Rattle.modeller.proofs.Performing.{done-as, done-changing, may-as, may-without, tags-as, takes-as, takes-changing}
+use Rattle.solid_calls.proofs.RowKinds.{drop-changes, kef-changes, kev-changes, kfmrh-changes, kvfs-changes, ringmove-changes}
 use Rattle.modeller.proofs.euler.carry_out.Goals as goal
 
 pub mvfs_do-requires-clause-may : goal.mvfs_do-requires-clause-may
-mvfs_do-requires-clause-may g c = may-as c.args.call.now _ c.in-Mvfs.is c.args.rec.now.store.now c.requires.may
+mvfs_do-requires-clause-may g c = may-as c.args.call.now _ c.in-Mvfs.is c.args.rec.now.store.now (left c.args.tags.now) c.requires.may
 
 pub mvfs_do-requires-clause-tags : goal.mvfs_do-requires-clause-tags
-mvfs_do-requires-clause-tags g c = tags-making c.args.call.now _ c.in-Mvfs.is 5 c.args.rec.now.store.now c.args.tags.now c.args.out.now (mvfs-makes (shape_of c.args.rec.now.store.now.state.map) c.in-Mvfs.at) c.requires.may c.requires.tags
+mvfs_do-requires-clause-tags g c = tags-as c.args.call.now _ c.in-Mvfs.is c.args.rec.now.store.now c.args.tags.now c.args.out.now c.requires.tags
 
 pub returns-in-Mvfs-clause-done : goal.returns-in-Mvfs-clause-done
 returns-in-Mvfs-clause-done g c = done-as c.args.call.now _ c.in-Mvfs.is c.args.rec.now.store.now c.mvfs_do.new.rec.store.now (left c.args.tags.now) c.mvfs_do.ensures.done
 
 pub returns-in-Mvfs-clause-takes : goal.returns-in-Mvfs-clause-takes
-returns-in-Mvfs-clause-takes g c = takes-making c.args.call.now _ c.in-Mvfs.is 5 c.args.rec.now.store.now c.args.tags.now c.mvfs_do.new.tags c.args.out.now c.mvfs_do.new.out (mvfs-makes (shape_of c.args.rec.now.store.now.state.map) c.in-Mvfs.at) c.requires.may c.mvfs_do.ensures.takes
+returns-in-Mvfs-clause-takes g c = takes-as c.args.call.now _ c.in-Mvfs.is c.args.rec.now.store.now.state.map c.args.tags.now c.mvfs_do.new.tags c.args.out.now c.mvfs_do.new.out c.mvfs_do.ensures.takes
 
 pub mev_do-requires-clause-may : goal.mev_do-requires-clause-may
-mev_do-requires-clause-may g c = may-as c.args.call.now _ c.in-Mev.is c.args.rec.now.store.now c.requires.may
+mev_do-requires-clause-may g c = may-as c.args.call.now _ c.in-Mev.is c.args.rec.now.store.now (left c.args.tags.now) c.requires.may
 
 pub mev_do-requires-clause-tags : goal.mev_do-requires-clause-tags
-mev_do-requires-clause-tags g c = tags-making c.args.call.now _ c.in-Mev.is 4 c.args.rec.now.store.now c.args.tags.now c.args.out.now (mev-makes (shape_of c.args.rec.now.store.now.state.map) c.in-Mev.end c.in-Mev.at) c.requires.may c.requires.tags
+mev_do-requires-clause-tags g c = tags-as c.args.call.now _ c.in-Mev.is c.args.rec.now.store.now c.args.tags.now c.args.out.now c.requires.tags
 
 pub returns-in-Mev-clause-done : goal.returns-in-Mev-clause-done
 returns-in-Mev-clause-done g c = done-as c.args.call.now _ c.in-Mev.is c.args.rec.now.store.now c.mev_do.new.rec.store.now (left c.args.tags.now) c.mev_do.ensures.done
 
 pub returns-in-Mev-clause-takes : goal.returns-in-Mev-clause-takes
-returns-in-Mev-clause-takes g c = takes-making c.args.call.now _ c.in-Mev.is 4 c.args.rec.now.store.now c.args.tags.now c.mev_do.new.tags c.args.out.now c.mev_do.new.out (mev-makes (shape_of c.args.rec.now.store.now.state.map) c.in-Mev.end c.in-Mev.at) c.requires.may c.mev_do.ensures.takes
+returns-in-Mev-clause-takes g c = takes-as c.args.call.now _ c.in-Mev.is c.args.rec.now.store.now.state.map c.args.tags.now c.mev_do.new.tags c.args.out.now c.mev_do.new.out c.mev_do.ensures.takes
 
 pub mef_do-requires-clause-may : goal.mef_do-requires-clause-may
-mef_do-requires-clause-may g c = may-as c.args.call.now _ c.in-Mef.is c.args.rec.now.store.now c.requires.may
+mef_do-requires-clause-may g c = may-as c.args.call.now _ c.in-Mef.is c.args.rec.now.store.now (left c.args.tags.now) c.requires.may
 
 pub mef_do-requires-clause-tags : goal.mef_do-requires-clause-tags
-mef_do-requires-clause-tags g c = tags-making c.args.call.now _ c.in-Mef.is 5 c.args.rec.now.store.now c.args.tags.now c.args.out.now (mef-makes (shape_of c.args.rec.now.store.now.state.map) c.in-Mef.from c.in-Mef.to) c.requires.may c.requires.tags
+mef_do-requires-clause-tags g c = tags-as c.args.call.now _ c.in-Mef.is c.args.rec.now.store.now c.args.tags.now c.args.out.now c.requires.tags
 
 pub returns-in-Mef-clause-done : goal.returns-in-Mef-clause-done
 returns-in-Mef-clause-done g c = done-as c.args.call.now _ c.in-Mef.is c.args.rec.now.store.now c.mef_do.new.rec.store.now (left c.args.tags.now) c.mef_do.ensures.done
 
 pub returns-in-Mef-clause-takes : goal.returns-in-Mef-clause-takes
-returns-in-Mef-clause-takes g c = takes-making c.args.call.now _ c.in-Mef.is 5 c.args.rec.now.store.now c.args.tags.now c.mef_do.new.tags c.args.out.now c.mef_do.new.out (mef-makes (shape_of c.args.rec.now.store.now.state.map) c.in-Mef.from c.in-Mef.to) c.requires.may c.mef_do.ensures.takes
+returns-in-Mef-clause-takes g c = takes-as c.args.call.now _ c.in-Mef.is c.args.rec.now.store.now.state.map c.args.tags.now c.mef_do.new.tags c.args.out.now c.mef_do.new.out c.mef_do.ensures.takes
 
 pub mekr_do-requires-clause-may : goal.mekr_do-requires-clause-may
-mekr_do-requires-clause-may g c = may-as c.args.call.now _ c.in-Mekr.is c.args.rec.now.store.now c.requires.may
+mekr_do-requires-clause-may g c = may-as c.args.call.now _ c.in-Mekr.is c.args.rec.now.store.now (left c.args.tags.now) c.requires.may
 
 pub mekr_do-requires-clause-tags : goal.mekr_do-requires-clause-tags
-mekr_do-requires-clause-tags g c = tags-making c.args.call.now _ c.in-Mekr.is 3 c.args.rec.now.store.now c.args.tags.now c.args.out.now (mekr-makes (shape_of c.args.rec.now.store.now.state.map) c.in-Mekr.keep c.in-Mekr.ring) c.requires.may c.requires.tags
+mekr_do-requires-clause-tags g c = tags-as c.args.call.now _ c.in-Mekr.is c.args.rec.now.store.now c.args.tags.now c.args.out.now c.requires.tags
 
 pub returns-in-Mekr-clause-done : goal.returns-in-Mekr-clause-done
 returns-in-Mekr-clause-done g c = done-as c.args.call.now _ c.in-Mekr.is c.args.rec.now.store.now c.mekr_do.new.rec.store.now (left c.args.tags.now) c.mekr_do.ensures.done
 
 pub returns-in-Mekr-clause-takes : goal.returns-in-Mekr-clause-takes
-returns-in-Mekr-clause-takes g c = takes-making c.args.call.now _ c.in-Mekr.is 3 c.args.rec.now.store.now c.args.tags.now c.mekr_do.new.tags c.args.out.now c.mekr_do.new.out (mekr-makes (shape_of c.args.rec.now.store.now.state.map) c.in-Mekr.keep c.in-Mekr.ring) c.requires.may c.mekr_do.ensures.takes
+returns-in-Mekr-clause-takes g c = takes-as c.args.call.now _ c.in-Mekr.is c.args.rec.now.store.now.state.map c.args.tags.now c.mekr_do.new.tags c.args.out.now c.mekr_do.new.out c.mekr_do.ensures.takes
 
 pub mfkrh_do-requires-clause-may : goal.mfkrh_do-requires-clause-may
-mfkrh_do-requires-clause-may g c = may-as c.args.call.now _ c.in-Mfkrh.is c.args.rec.now.store.now c.requires.may
+mfkrh_do-requires-clause-may g c = may-as c.args.call.now _ c.in-Mfkrh.is c.args.rec.now.store.now (left c.args.tags.now) c.requires.may
 
 pub mfkrh_do-requires-clause-tags : goal.mfkrh_do-requires-clause-tags
-mfkrh_do-requires-clause-tags g c = tags-making c.args.call.now _ c.in-Mfkrh.is 1 c.args.rec.now.store.now c.args.tags.now c.args.out.now (mfkrh-makes (shape_of c.args.rec.now.store.now.state.map) c.in-Mfkrh.ring) c.requires.may c.requires.tags
+mfkrh_do-requires-clause-tags g c = tags-as c.args.call.now _ c.in-Mfkrh.is c.args.rec.now.store.now c.args.tags.now c.args.out.now c.requires.tags
 
 pub returns-in-Mfkrh-clause-done : goal.returns-in-Mfkrh-clause-done
 returns-in-Mfkrh-clause-done g c = done-as c.args.call.now _ c.in-Mfkrh.is c.args.rec.now.store.now c.mfkrh_do.new.rec.store.now (left c.args.tags.now) c.mfkrh_do.ensures.done
 
 pub returns-in-Mfkrh-clause-takes : goal.returns-in-Mfkrh-clause-takes
-returns-in-Mfkrh-clause-takes g c = takes-making c.args.call.now _ c.in-Mfkrh.is 1 c.args.rec.now.store.now c.args.tags.now c.mfkrh_do.new.tags c.args.out.now c.mfkrh_do.new.out (mfkrh-makes (shape_of c.args.rec.now.store.now.state.map) c.in-Mfkrh.ring) c.requires.may c.mfkrh_do.ensures.takes
+returns-in-Mfkrh-clause-takes g c = takes-as c.args.call.now _ c.in-Mfkrh.is c.args.rec.now.store.now.state.map c.args.tags.now c.mfkrh_do.new.tags c.args.out.now c.mfkrh_do.new.out c.mfkrh_do.ensures.takes
 
 pub kvfs_do-requires : goal.kvfs_do-requires
-kvfs_do-requires g c = may-as c.args.call.now _ c.in-Kvfs.is c.args.rec.now.store.now c.requires.may
+kvfs_do-requires g c = may-without c.args.call.now _ c.in-Kvfs.is c.args.rec.now.store.now (left c.args.tags.now) c.requires.may
 
 pub returns-in-Kvfs-clause-done : goal.returns-in-Kvfs-clause-done
 returns-in-Kvfs-clause-done g c = done-changing c.args.call.now _ c.in-Kvfs.is c.args.rec.now.store.now c.kvfs_do.new.rec.store.now (left c.args.tags.now) (kvfs-changes (shape_of c.args.rec.now.store.now.state.map) c.in-Kvfs.body) c.kvfs_do.ensures.done
@@ -74,7 +77,7 @@ pub returns-in-Kvfs-clause-takes : goal.returns-in-Kvfs-clause-takes
 returns-in-Kvfs-clause-takes g c = takes-changing c.args.call.now _ c.in-Kvfs.is c.args.rec.now.store.now.state.map c.args.tags.now c.args.out.now (kvfs-changes (shape_of c.args.rec.now.store.now.state.map) c.in-Kvfs.body)
 
 pub kev_do-requires : goal.kev_do-requires
-kev_do-requires g c = may-as c.args.call.now _ c.in-Kev.is c.args.rec.now.store.now c.requires.may
+kev_do-requires g c = may-without c.args.call.now _ c.in-Kev.is c.args.rec.now.store.now (left c.args.tags.now) c.requires.may
 
 pub returns-in-Kev-clause-done : goal.returns-in-Kev-clause-done
 returns-in-Kev-clause-done g c = done-changing c.args.call.now _ c.in-Kev.is c.args.rec.now.store.now c.kev_do.new.rec.store.now (left c.args.tags.now) (kev-changes (shape_of c.args.rec.now.store.now.state.map) c.in-Kev.fin) c.kev_do.ensures.done
@@ -83,7 +86,7 @@ pub returns-in-Kev-clause-takes : goal.returns-in-Kev-clause-takes
 returns-in-Kev-clause-takes g c = takes-changing c.args.call.now _ c.in-Kev.is c.args.rec.now.store.now.state.map c.args.tags.now c.args.out.now (kev-changes (shape_of c.args.rec.now.store.now.state.map) c.in-Kev.fin)
 
 pub kef_do-requires : goal.kef_do-requires
-kef_do-requires g c = may-as c.args.call.now _ c.in-Kef.is c.args.rec.now.store.now c.requires.may
+kef_do-requires g c = may-without c.args.call.now _ c.in-Kef.is c.args.rec.now.store.now (left c.args.tags.now) c.requires.may
 
 pub returns-in-Kef-clause-done : goal.returns-in-Kef-clause-done
 returns-in-Kef-clause-done g c = done-changing c.args.call.now _ c.in-Kef.is c.args.rec.now.store.now c.kef_do.new.rec.store.now (left c.args.tags.now) (kef-changes (shape_of c.args.rec.now.store.now.state.map) c.in-Kef.fin) c.kef_do.ensures.done
@@ -92,19 +95,19 @@ pub returns-in-Kef-clause-takes : goal.returns-in-Kef-clause-takes
 returns-in-Kef-clause-takes g c = takes-changing c.args.call.now _ c.in-Kef.is c.args.rec.now.store.now.state.map c.args.tags.now c.args.out.now (kef-changes (shape_of c.args.rec.now.store.now.state.map) c.in-Kef.fin)
 
 pub kemr_do-requires-clause-may : goal.kemr_do-requires-clause-may
-kemr_do-requires-clause-may g c = may-as c.args.call.now _ c.in-Kemr.is c.args.rec.now.store.now c.requires.may
+kemr_do-requires-clause-may g c = may-as c.args.call.now _ c.in-Kemr.is c.args.rec.now.store.now (left c.args.tags.now) c.requires.may
 
 pub kemr_do-requires-clause-tags : goal.kemr_do-requires-clause-tags
-kemr_do-requires-clause-tags g c = tags-making c.args.call.now _ c.in-Kemr.is 1 c.args.rec.now.store.now c.args.tags.now c.args.out.now (kemr-makes (shape_of c.args.rec.now.store.now.state.map) c.in-Kemr.fin) c.requires.may c.requires.tags
+kemr_do-requires-clause-tags g c = tags-as c.args.call.now _ c.in-Kemr.is c.args.rec.now.store.now c.args.tags.now c.args.out.now c.requires.tags
 
 pub returns-in-Kemr-clause-done : goal.returns-in-Kemr-clause-done
 returns-in-Kemr-clause-done g c = done-as c.args.call.now _ c.in-Kemr.is c.args.rec.now.store.now c.kemr_do.new.rec.store.now (left c.args.tags.now) c.kemr_do.ensures.done
 
 pub returns-in-Kemr-clause-takes : goal.returns-in-Kemr-clause-takes
-returns-in-Kemr-clause-takes g c = takes-making c.args.call.now _ c.in-Kemr.is 1 c.args.rec.now.store.now c.args.tags.now c.kemr_do.new.tags c.args.out.now c.kemr_do.new.out (kemr-makes (shape_of c.args.rec.now.store.now.state.map) c.in-Kemr.fin) c.requires.may c.kemr_do.ensures.takes
+returns-in-Kemr-clause-takes g c = takes-as c.args.call.now _ c.in-Kemr.is c.args.rec.now.store.now.state.map c.args.tags.now c.kemr_do.new.tags c.args.out.now c.kemr_do.new.out c.kemr_do.ensures.takes
 
 pub kfmrh_do-requires : goal.kfmrh_do-requires
-kfmrh_do-requires g c = may-as c.args.call.now _ c.in-Kfmrh.is c.args.rec.now.store.now c.requires.may
+kfmrh_do-requires g c = may-without c.args.call.now _ c.in-Kfmrh.is c.args.rec.now.store.now (left c.args.tags.now) c.requires.may
 
 pub returns-in-Kfmrh-clause-done : goal.returns-in-Kfmrh-clause-done
 returns-in-Kfmrh-clause-done g c = done-changing c.args.call.now _ c.in-Kfmrh.is c.args.rec.now.store.now c.kfmrh_do.new.rec.store.now (left c.args.tags.now) (kfmrh-changes (shape_of c.args.rec.now.store.now.state.map) c.in-Kfmrh.keep c.in-Kfmrh.kill) c.kfmrh_do.ensures.done
@@ -113,7 +116,7 @@ pub returns-in-Kfmrh-clause-takes : goal.returns-in-Kfmrh-clause-takes
 returns-in-Kfmrh-clause-takes g c = takes-changing c.args.call.now _ c.in-Kfmrh.is c.args.rec.now.store.now.state.map c.args.tags.now c.args.out.now (kfmrh-changes (shape_of c.args.rec.now.store.now.state.map) c.in-Kfmrh.keep c.in-Kfmrh.kill)
 
 pub ringmove_do-requires : goal.ringmove_do-requires
-ringmove_do-requires g c = may-as c.args.call.now _ c.in-RingMove.is c.args.rec.now.store.now c.requires.may
+ringmove_do-requires g c = may-without c.args.call.now _ c.in-RingMove.is c.args.rec.now.store.now (left c.args.tags.now) c.requires.may
 
 pub returns-in-RingMove-clause-done : goal.returns-in-RingMove-clause-done
 returns-in-RingMove-clause-done g c = done-changing c.args.call.now _ c.in-RingMove.is c.args.rec.now.store.now c.ringmove_do.new.rec.store.now (left c.args.tags.now) (ringmove-changes (shape_of c.args.rec.now.store.now.state.map) c.in-RingMove.ring c.in-RingMove.to) c.ringmove_do.ensures.done
@@ -121,8 +124,14 @@ returns-in-RingMove-clause-done g c = done-changing c.args.call.now _ c.in-RingM
 pub returns-in-RingMove-clause-takes : goal.returns-in-RingMove-clause-takes
 returns-in-RingMove-clause-takes g c = takes-changing c.args.call.now _ c.in-RingMove.is c.args.rec.now.store.now.state.map c.args.tags.now c.args.out.now (ringmove-changes (shape_of c.args.rec.now.store.now.state.map) c.in-RingMove.ring c.in-RingMove.to)
 
+pub returns-in-SetAttr-clause-done : goal.returns-in-SetAttr-clause-done
+returns-in-SetAttr-clause-done g c =
+    let same : to_z w64 (of_z w64 c.in-SetAttr.value) ≡ c.in-SetAttr.value = search rules in
+    done-as c.args.call.now _ c.in-SetAttr.is c.args.rec.now.store.now c.set_do.new.rec.store.now (left c.args.tags.now)
+    (subst (λ v. HasDone c.args.rec.now.store.now (SetAttr c.in-SetAttr.owner c.in-SetAttr.name v) (left c.args.tags.now) c.set_do.new.rec.store.now) same c.set_do.ensures.done)
+
 pub drop_do-requires : goal.drop_do-requires
-drop_do-requires g c = may-as c.args.call.now _ c.in-DropAttr.is c.args.rec.now.store.now c.requires.may
+drop_do-requires g c = may-without c.args.call.now _ c.in-DropAttr.is c.args.rec.now.store.now (left c.args.tags.now) c.requires.may
 
 pub returns-in-DropAttr-clause-done : goal.returns-in-DropAttr-clause-done
 returns-in-DropAttr-clause-done g c = done-changing c.args.call.now _ c.in-DropAttr.is c.args.rec.now.store.now c.drop_do.new.rec.store.now (left c.args.tags.now) (drop-changes (shape_of c.args.rec.now.store.now.state.map) c.in-DropAttr.owner c.in-DropAttr.name) c.drop_do.ensures.done

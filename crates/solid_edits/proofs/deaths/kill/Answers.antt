@@ -3,7 +3,7 @@ use Rattle.entity_store.specs.Store.{Stored}
 use Rattle.solid_calls.specs.Attributes.{attributes_on}
 use Rattle.list_facts.proofs.Elements.{Contains-first, Contains-later}
 use Rattle.solid_edits.proofs.KilledMaps.{dies-put}
-use Rattle.solid_calls.proofs.Room.{puts-one, puts-then, puts-wider, room-after, room-for_one, room-part}
+use Rattle.entity_store.proofs.Room.{puts-one, puts-then, puts-wider, room-after, room-for_one, room-part}
 use Rattle.solid_edits.proofs.deaths.kill.Goals as goal
 
 pub drop_all-requires : goal.drop_all-requires

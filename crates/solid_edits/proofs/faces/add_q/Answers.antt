@@ -1,7 +1,7 @@
 use Rattle.std.proofs.Common.{[], ◌∷◌, Some, sym, ap, ◌∙◌}
 use Rattle.list_facts.proofs.Elements.{Contains-first}
 use Rattle.solid_edits.proofs.Hosted.{hosted-seen, hosted-shell}
-use Rattle.solid_calls.proofs.Room.{puts-one}
+use Rattle.entity_store.proofs.Room.{puts-one}
 use Rattle.solid_edits.proofs.faces.add_q.Goals as goal
 
 pub put-requires-clause-owned : goal.put-requires-clause-owned

@@ -1,5 +1,5 @@
 use Rattle.std.proofs.Common.{[], ◌∷◌}
-use Rattle.solid_calls.proofs.Room.{puts-one}
+use Rattle.entity_store.proofs.Room.{puts-one}
 use Rattle.list_facts.proofs.Elements.{Contains-first}
 use Rattle.solid_edits.proofs.faces.give_loop.Goals as goal
 

@@ -1,6 +1,6 @@
 use Rattle.std.proofs.Common.{[]}
 use Rattle.list_facts.proofs.Elements.{Contains-first}
-use Rattle.solid_calls.proofs.Room.{puts-one}
+use Rattle.entity_store.proofs.Room.{puts-one}
 use Rattle.solid_edits.proofs.ring_loops.put_loop.Goals as goal
 
 pub returns-clause-puts : goal.returns-clause-puts

@@ -5,7 +5,7 @@ use Rattle.std.proofs.lemmas.Result.{err_from_is_err_and}
 use Rattle.pk_base.specs.declared.entity.Entity.TheVariants.{Loop}
 use Rattle.solid_model.specs.Places.{end_at, end_of_item}
 use Rattle.solid_model.specs.Shapes.{shape_of}
-use Rattle.solid_calls.specs.LinkedRings.{IsInRing, ring_at, ring_of_any}
+use Rattle.halfedge.specs.LinkedRings.{IsInRing, ring_at, ring_of_any}
 use Rattle.solid_places.specs.Placed.{placed_by, as_placed_end, place_of_end}
 use Rattle.solid_places.specs.declared.ends.End.{End}
 use Rattle.solid_places.proofs.Read.{found, not_found, class-read, item-of}

@@ -5,7 +5,7 @@ use Rattle.std.proofs.lemmas.Option.{same_Some}
 use Rattle.pk_base.specs.declared.entity.Entity.TheVariants.{Shell}
 use Rattle.solid_model.specs.Items.{item_at}
 use Rattle.solid_model.specs.Shapes.{shape_of}
-use Rattle.solid_sound.proofs.shapes.Found.{mapped-was}
+use Rattle.solid_model.proofs.Reading.{mapped-was}
 use Rattle.solid_sound.proofs.rows.KeptRings.{shell_of_class}
 use Rattle.solid_places.proofs.Read.{item-of, entity-of}
 use Rattle.solid_places.proofs.Around.{owner-is}

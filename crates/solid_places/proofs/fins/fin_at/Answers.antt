@@ -10,7 +10,7 @@ use Rattle.solid_places.specs.declared.loops.PlacedLoop.{PlacedLoop}
 use Rattle.solid_places.proofs.Read.{found, refused, refused-class, item-of}
 use Rattle.solid_places.proofs.Classes.{not_fin}
 use Rattle.solid_places.proofs.RingPlaces.{fin-ring, fins-of_fin, loop-found, fin-place}
-use Rattle.solid_calls.specs.LinkedRings.{ring_at}
+use Rattle.halfedge.specs.LinkedRings.{ring_at}
 use Rattle.solid_places.proofs.Told.{fin-told, if_refused-told, refused-told}
 use Rattle.solid_places.proofs.fins.fin_at.Goals as goal
 

@@ -1,16 +1,20 @@
 use Rattle.std.specs.List.{list_all}
-use Rattle.std.proofs.Common.{◌≡◌, true, nat_lt, [], ◌∷◌, ◌++◌, sym, ap, subst, ◌∙◌}
+use Rattle.std.proofs.Common.{◌≡◌, ◌+◌, None, replicate, true, nat_lt, [], ◌∷◌, ◌++◌, sym, ap, subst, ◌∙◌}
 use Rattle.pk_model.specs.Maps.{EntityMap}
-use Rattle.entity_store.specs.Store.{Stored, StoreView, stored}
+use Rattle.entity_store.specs.OwnerLinks.{links_missing}
+use Rattle.entity_store.specs.Store.{IsKept, Stored, StoreView, stored}
 use Rattle.entity_store.proofs.KeptSlots.{kept_after_block}
 use Rattle.entity_store.proofs.MapOf.{map_of-block}
 use Rattle.entity_store.proofs.store.Store.add_reserved.Goals as goal
 
 pub invariant_of-self : goal.invariant_of-self
 invariant_of-self c =
+    let blocks = c.self.inside.blocks.items in
+    let slots = c.self.inside.slots.items in
     let above = subst (λ (s : StoreView). list_all (λ o. nat_lt o c.args.b) s.state.blocks ≡ true) (sym c.self.view_is) c.requires.above in
-    rw (c.push_reserved.ensures.items, c.add_slots.ensures.items)
-    (kept_after_block c.self.inside.blocks.items c.self.inside.slots.items c.self.inside.live c.args.b c.self.invariant above c.requires.first c.requires.last)
+    rw (c.push_reserved.ensures.items, c.add_slots.ensures.items, c.add_links.ensures.owners, c.len.ensures)
+    (subst (λ n. IsKept (blocks ++ c.args.b ∷ []) (slots ++ replicate 64 None) c.self.inside.live (c.self.inside.links.owners ++ replicate (links_missing n + 64) None)) (sym c.self.inside.blocks.ok.0)
+    (kept_after_block c.self.inside.blocks.items c.self.inside.slots.items c.self.inside.live c.args.b c.self.inside.links.owners c.self.invariant above c.requires.first c.requires.last))
 
 pub returns-clause-state : goal.returns-clause-state
 returns-clause-state c =
