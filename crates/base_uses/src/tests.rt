@@ -1,7 +1,9 @@
+mod deltas;
 mod links;
 mod lists;
 mod messages;
 mod outside;
+mod plane;
 mod refusals;
 mod stores;
 mod texts;

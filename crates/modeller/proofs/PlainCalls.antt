@@ -15,8 +15,10 @@ use Rattle.solid_model.specs.Kemr.{kemr}
 use Rattle.solid_model.specs.Kfmrh.{kfmrh}
 use Rattle.solid_model.specs.RingMove.{ringmove}
 use Rattle.solid_model.specs.DropAttr.{drop_attribute}
+use Rattle.solid_model.specs.Motions.{move, turn}
 use Rattle.solid_model.specs.Calls.{row_of}
 use Rattle.solid_calls.proofs.RowKinds.{IsPlain, drop-changes, kef-changes, kemr-makes, kev-changes, kfmrh-changes, kvfs-changes, mef-makes, mekr-makes, mev-makes, mfkrh-makes, mvfs-makes, plain-changing, plain-making, ringmove-changes, set-plain}
+use Rattle.solid_motion.proofs.RowKinds.{move-changes, turn-changes}
 use Rattle.modeller.specs.Euler.{is_done}
 
 pub plain : (S : Shape) (c : Call) → is_done c ≡ true → IsPlain (row_of S c)
@@ -35,8 +37,8 @@ plain S (Lamina z corners) h = absurd (cc)
 plain S (Block at size) h = absurd (cc)
 plain S (Prism z h' corners) h = absurd (cc)
 plain S (Sweep face by) h = absurd (cc)
-plain S (Move body by) h = absurd (cc)
-plain S (Turn body axis turns) h = absurd (cc)
+plain S (Move body by) h = plain-changing (move S body by) (move-changes S body by)
+plain S (Turn body axis turns) h = plain-changing (turn S body axis turns) (turn-changes S body axis turns)
 plain S (Delete body) h = absurd (cc)
 plain S (SetAttr owner name value) h = set-plain S owner name value
 plain S (DropAttr owner name) h = plain-changing (drop_attribute S owner name) (drop-changes S owner name)

@@ -6,7 +6,7 @@ use Rattle.pk_model.specs.Modelling.{Modelling}
 use Rattle.solid_model.specs.Euler as all
 use Rattle.modeller.specs.Only.{only}
 
--- the Euler operators and the calls on attributes are done
+-- the Euler operators, move, turn and the calls on attributes are done
 abbrev pub is_done : Call → Bool
 is_done (Mvfs at) = true
 is_done (Mev end at) = true
@@ -23,8 +23,8 @@ is_done (Lamina z corners) = false
 is_done (Block at size) = false
 is_done (Prism z h corners) = false
 is_done (Sweep face by) = false
-is_done (Move body by) = false
-is_done (Turn body axis turns) = false
+is_done (Move body by) = true
+is_done (Turn body axis turns) = true
 is_done (Delete body) = false
 is_done (SetAttr owner name value) = true
 is_done (DropAttr owner name) = true

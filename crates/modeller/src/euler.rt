@@ -18,6 +18,7 @@ use euler_make::{
 };
 use pk_base::{Call, Refusal, Reply, Tag, TagListBuilder};
 use pk_model::Meaning;
+use solid_motion::{move_do, move_need, turn_do, turn_need};
 use std::sync::ledger::Ledger;
 
 /// The modeller of the calls on solids. A call that it does not do yet is refused `NoSuchTag` with
@@ -48,14 +49,14 @@ impl Modeller for Euler {
             Call::Kemr { fin } => kemr_need(store, *fin, steps),
             Call::Kfmrh { keep, kill } => kfmrh_need(store, *keep, *kill, steps),
             Call::RingMove { ring, to } => ringmove_need(store, *ring, *to, steps),
+            Call::Move { body, by } => move_need(store, *body, *by, steps),
+            Call::Turn { body, axis, turns } => turn_need(store, *body, *axis, *turns, steps),
             Call::SetAttr { owner, name, value } => set_need(store, *owner, *name, *value, steps),
             Call::DropAttr { owner, name } => drop_need(store, *owner, *name, steps),
             Call::Lamina { .. }
             | Call::Block { .. }
             | Call::Prism { .. }
             | Call::Sweep { .. }
-            | Call::Move { .. }
-            | Call::Turn { .. }
             | Call::Delete { .. }
             | Call::Ask { .. }
             | Call::Kids { .. }
@@ -109,6 +110,8 @@ fn carry_out<L: Ledger>(
         Call::Kemr { fin } => kemr_do(rec, *fin, tags, out, steps),
         Call::Kfmrh { keep, kill } => kfmrh_do(rec, *keep, *kill, steps),
         Call::RingMove { ring, to } => ringmove_do(rec, *ring, *to, steps),
+        Call::Move { body, by } => move_do(rec, *body, *by, steps),
+        Call::Turn { body, axis, turns } => turn_do(rec, *body, *axis, *turns, steps),
         Call::SetAttr { owner, name, value } => {
             set_do(rec, *owner, *name, *value, tags, out, steps)
         }
@@ -117,8 +120,6 @@ fn carry_out<L: Ledger>(
         | Call::Block { .. }
         | Call::Prism { .. }
         | Call::Sweep { .. }
-        | Call::Move { .. }
-        | Call::Turn { .. }
         | Call::Delete { .. }
         | Call::Ask { .. }
         | Call::Kids { .. }
@@ -155,14 +156,14 @@ pub fn is_done(call: &Call) -> bool
         | Call::Kemr { .. }
         | Call::Kfmrh { .. }
         | Call::RingMove { .. }
+        | Call::Move { .. }
+        | Call::Turn { .. }
         | Call::SetAttr { .. }
         | Call::DropAttr { .. } => true,
         Call::Lamina { .. }
         | Call::Block { .. }
         | Call::Prism { .. }
         | Call::Sweep { .. }
-        | Call::Move { .. }
-        | Call::Turn { .. }
         | Call::Delete { .. }
         | Call::Ask { .. }
         | Call::Kids { .. }

@@ -75,7 +75,7 @@ lt_from_is_lt t u h =
     never true k = absurd k
     never false k = absurd k
 
-below_all-less : (t : Tag) (S : Shape) → T (below_all tag_cmp t S) → AllByRecursion (λ (x : Tag × Item). t.0 < x.0.0) S
+pub below_all-less : (t : Tag) (S : Shape) → T (below_all tag_cmp t S) → AllByRecursion (λ (x : Tag × Item). t.0 < x.0.0) S
 below_all-less t [] h = tt
 below_all-less t (x ∷ S) h =
     let both = both_parts (is_lt (tag_cmp t x.0)) (below_all tag_cmp t S) h in

@@ -15,11 +15,11 @@ use Rattle.pk_base.specs.declared.entity.Triple.{Triple}
 use Rattle.pk_base.specs.declared.refusal.Refusal.{Refusal}
 use Rattle.pk_base.specs.declared.refusal.Refusal.TheVariants.{CornerCount, BadPolygon}
 use Rattle.pk_model.specs.Tags.{tag_at}
+use Rattle.pk_plane.specs.Polygons.{bad_corner}
 use Rattle.solid_model.specs.Items.{Shape}
 use Rattle.solid_model.specs.Rows.{Row, refuse_where, ◌>>◌}
 use Rattle.solid_model.specs.Rows.Effect.{Makes}
 use Rattle.solid_model.specs.Ranges.{is_coordinate, refuse_outside}
-use Rattle.solid_model.specs.Polygons.{bad_corner}
 use Rattle.solid_model.specs.Folds.{Progress, after_row, after_path}
 use Rattle.solid_model.specs.Mvfs.{mvfs}
 use Rattle.solid_model.specs.Mef.{mef}

@@ -25,7 +25,6 @@ pub mod Shapes
 pub mod Queries
 pub mod Delete
 pub mod Motions
-pub mod Polygons
 pub mod Newell
 pub mod Folds
 pub mod Lamina

@@ -1,14 +1,14 @@
--- Moves and quarter turns of the points of a body.
-use Rattle.std.specs.Prelude.{ℕ, zero, suc, ℤ, ◌+ℤ◌, neg_ℤ, nat_abs, pos, int_le, Bool, ◌&&◌, List, [], ◌∷◌, map, if◌then◌else◌}
+-- Moves and quarter turns of a body.
+use Rattle.std.specs.Prelude.{ℤ, nat_abs, pos, int_le, Bool, ◌&&◌, List, [], ◌∷◌, map, if◌then◌else◌}
 use Rattle.std.specs.List.{filter_map, flat_map}
 use Rattle.std.specs.Prelude.{Option, Some, None}
 use Rattle.pk_base.specs.Entity.{same_tag}
 use Rattle.pk_base.specs.declared.tag.Tag.{Tag}
 use Rattle.pk_base.specs.declared.entity.Axis.{Axis}
-use Rattle.pk_base.specs.declared.entity.Axis.TheVariants.{X, Y, Z}
 use Rattle.pk_base.specs.declared.entity.Point.{Point}
 use Rattle.pk_base.specs.declared.entity.Triple.{Triple}
 use Rattle.pk_model.specs.Step.{◌>>=◌}
+use Rattle.pk_plane.specs.Turns.{moved, quarters}
 use Rattle.solid_model.specs.Items.{Item, Shape}
 use Rattle.solid_model.specs.Items.Item.{Body, Shell, Face, Loop, Fin, Edge, Vertex, Attr}
 use Rattle.solid_model.specs.Rows.{Row, changes, ◌>>◌}
@@ -45,19 +45,6 @@ point_in b (Attr owner name value) = None
 -- the points of a body, its vertices ascending
 abbrev pub points_of : Shape → Tag → List Point
 points_of S b = filter_map (λ x. point_in b x.1) S
-
-abbrev pub moved : Triple → Point → Point
-moved by p = record { x = p.x +ℤ by.x; y = p.y +ℤ by.y; z = p.z +ℤ by.z }
-
--- a quarter turn about the axis, from its positive end counter-clockwise
-abbrev pub quarter : Axis → Point → Point
-quarter X p = record { x = p.x; y = neg_ℤ p.z; z = p.y }
-quarter Y p = record { x = p.z; y = p.y; z = neg_ℤ p.x }
-quarter Z p = record { x = neg_ℤ p.y; y = p.x; z = p.z }
-
-abbrev pub quarters : ℕ → Axis → Point → Point
-quarters zero axis p = p
-quarters (suc k) axis p = quarter axis (quarters k axis p)
 
 -- every vertex of the body moves by the vector
 abbrev pub move : Shape → Tag → Triple → Row

@@ -17,14 +17,15 @@ use Rattle.pk_base.specs.declared.entity.Triple.{Triple}
 use Rattle.pk_base.specs.declared.refusal.Refusal.TheVariants.{HasRings, FlatSweep}
 use Rattle.pk_model.specs.Tags.{tag_at}
 use Rattle.pk_model.specs.Step.{◌>>=◌}
+use Rattle.pk_plane.specs.Vectors.{dot}
+use Rattle.pk_plane.specs.Turns.{moved}
 use Rattle.solid_model.specs.Items.{Shape}
 use Rattle.solid_model.specs.Owners.{has_rings}
 use Rattle.solid_model.specs.Rows.{Row, refuse_where, ◌>>◌}
 use Rattle.solid_model.specs.Rows.Effect.{Makes}
 use Rattle.solid_model.specs.Places.{face_at, fins_at, outer_at, start_at, point_at}
 use Rattle.solid_model.specs.Ranges.{is_component, is_coordinate, numbers_of, coordinates_of, refuse_outside}
-use Rattle.solid_model.specs.Motions.{moved}
-use Rattle.solid_model.specs.Newell.{newell, starts_of, dot}
+use Rattle.solid_model.specs.Newell.{newell, starts_of}
 use Rattle.solid_model.specs.Folds.{Progress, after_edges, after_cuts}
 
 abbrev pub triple_of : Point → Triple

@@ -14,8 +14,9 @@ use Rattle.solid_model.specs.Owners.{has_rings}
 use Rattle.solid_model.specs.Rows.{refuse_where}
 use Rattle.solid_model.specs.Places.{PlacedFace, face_at, fins_at, outer_at, outer_of}
 use Rattle.solid_model.specs.Ranges.{is_component, is_coordinate, numbers_of, coordinates_of, refuse_outside}
-use Rattle.solid_model.specs.Motions.{moved}
-use Rattle.solid_model.specs.Newell.{newell, starts_of, dot}
+use Rattle.pk_plane.specs.Vectors.{dot}
+use Rattle.pk_plane.specs.Turns.{moved}
+use Rattle.solid_model.specs.Newell.{newell, starts_of}
 use Rattle.solid_model.specs.Lamina.{after_lamina, refuse_count, refuse_corners, refuse_polygon, lamina}
 use Rattle.solid_model.specs.Sweep.{after_sweep, sweep}
 use Rattle.solid_sound.proofs.rows.RowKeeps.{IsWell, Keeps, keeps-after, keeps-bind}

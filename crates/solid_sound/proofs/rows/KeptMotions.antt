@@ -22,7 +22,8 @@ use Rattle.solid_model.specs.Items.{Item, Shape, item_at}
 use Rattle.solid_model.specs.Items.Item.{Body, Shell, Face, Loop, Fin, Edge, Vertex, Attr}
 use Rattle.solid_model.specs.Places.{body_at}
 use Rattle.solid_model.specs.Ranges.{is_component, is_coordinate, numbers_of, coordinates_of, refuse_outside}
-use Rattle.solid_model.specs.Motions.{with_point, with_points, point_in, points_of, moved, quarter, quarters, move, is_turn, turn}
+use Rattle.pk_plane.specs.Turns.{moved, quarter, quarters}
+use Rattle.solid_model.specs.Motions.{with_point, with_points, point_in, points_of, move, is_turn, turn}
 use Rattle.solid_model.specs.Sound.{HasAttributes}
 use Rattle.solid_model.proofs.Written.{is_sorted-map}
 use Rattle.list_facts.proofs.Elements.{Contains-first, Contains-later, Contains-flat_map}

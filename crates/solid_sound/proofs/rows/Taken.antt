@@ -28,7 +28,8 @@ use Rattle.solid_model.specs.Ranges.{is_component, is_coordinate, numbers_of, co
 use Rattle.solid_model.specs.Rows.{Row, refuse_where, ◌>>◌}
 use Rattle.solid_model.specs.Rows.Effect.{Makes, Changes, Tells}
 use Rattle.solid_model.specs.Places.{loop_at, face_at, fin_at, end_at, body_at, outer_at, PlacedLoop}
-use Rattle.solid_model.specs.Motions.{with_point, with_points, points_of, moved, quarters, is_turn, move, turn}
+use Rattle.pk_plane.specs.Turns.{moved, quarters}
+use Rattle.solid_model.specs.Motions.{with_point, with_points, points_of, is_turn, move, turn}
 use Rattle.solid_model.specs.Attributes.{attribute_named, owner_of_attributes_at}
 use Rattle.solid_model.specs.SetAttr.{set_in, set_attribute}
 use Rattle.solid_model.specs.DropAttr.{dropped, drop_attribute}

@@ -1,10 +1,11 @@
-use Rattle.std.proofs.Common.{◌≡◌, of_z, rules, subst, to_z, w64}
-use Rattle.pk_base.specs.declared.call.Call.TheVariants.{SetAttr}
-use Rattle.solid_calls.specs.Pairs.{HasDone}
+use Rattle.std.proofs.Common.{◌≡◌, [], of_z, rules, subst, sym, to_z, w64}
+use Rattle.pk_base.specs.declared.call.Call.TheVariants.{SetAttr, Turn}
+use Rattle.solid_calls.specs.Pairs.{HasDone, MayDo}
 use Rattle.entity_store.specs.NextTags.{left}
 use Rattle.solid_model.specs.Shapes.{shape_of}
 use Rattle.modeller.proofs.Performing.{done-as, done-changing, may-as, may-without, tags-as, takes-as, takes-changing}
 use Rattle.solid_calls.proofs.RowKinds.{drop-changes, kef-changes, kev-changes, kfmrh-changes, kvfs-changes, ringmove-changes}
+use Rattle.solid_motion.proofs.RowKinds.{move-changes, turn-changes}
 use Rattle.modeller.proofs.euler.carry_out.Goals as goal
 
 pub mvfs_do-requires-clause-may : goal.mvfs_do-requires-clause-may
@@ -123,6 +124,29 @@ returns-in-RingMove-clause-done g c = done-changing c.args.call.now _ c.in-RingM
 
 pub returns-in-RingMove-clause-takes : goal.returns-in-RingMove-clause-takes
 returns-in-RingMove-clause-takes g c = takes-changing c.args.call.now _ c.in-RingMove.is c.args.rec.now.store.now.state.map c.args.tags.now c.args.out.now (ringmove-changes (shape_of c.args.rec.now.store.now.state.map) c.in-RingMove.ring c.in-RingMove.to)
+
+pub move_do-requires : goal.move_do-requires
+move_do-requires g c = may-without c.args.call.now _ c.in-Move.is c.args.rec.now.store.now (left c.args.tags.now) c.requires.may
+
+pub returns-in-Move-clause-done : goal.returns-in-Move-clause-done
+returns-in-Move-clause-done g c = done-changing c.args.call.now _ c.in-Move.is c.args.rec.now.store.now c.move_do.new.rec.store.now (left c.args.tags.now) (move-changes (shape_of c.args.rec.now.store.now.state.map) c.in-Move.body c.in-Move.by) c.move_do.ensures.done
+
+pub returns-in-Move-clause-takes : goal.returns-in-Move-clause-takes
+returns-in-Move-clause-takes g c = takes-changing c.args.call.now _ c.in-Move.is c.args.rec.now.store.now.state.map c.args.tags.now c.args.out.now (move-changes (shape_of c.args.rec.now.store.now.state.map) c.in-Move.body c.in-Move.by)
+
+pub turn_do-requires : goal.turn_do-requires
+turn_do-requires g c =
+    let same : to_z w64 (of_z w64 c.in-Turn.turns) ≡ c.in-Turn.turns = search rules in
+    subst (λ k. MayDo c.args.rec.now.store.now (Turn c.in-Turn.body c.in-Turn.axis k) []) (sym same) (may-without c.args.call.now _ c.in-Turn.is c.args.rec.now.store.now (left c.args.tags.now) c.requires.may)
+
+pub returns-in-Turn-clause-done : goal.returns-in-Turn-clause-done
+returns-in-Turn-clause-done g c =
+    let same : to_z w64 (of_z w64 c.in-Turn.turns) ≡ c.in-Turn.turns = search rules in
+    done-changing c.args.call.now _ c.in-Turn.is c.args.rec.now.store.now c.turn_do.new.rec.store.now (left c.args.tags.now) (turn-changes (shape_of c.args.rec.now.store.now.state.map) c.in-Turn.body c.in-Turn.axis c.in-Turn.turns)
+    (subst (λ k. HasDone c.args.rec.now.store.now (Turn c.in-Turn.body c.in-Turn.axis k) [] c.turn_do.new.rec.store.now) same c.turn_do.ensures.done)
+
+pub returns-in-Turn-clause-takes : goal.returns-in-Turn-clause-takes
+returns-in-Turn-clause-takes g c = takes-changing c.args.call.now _ c.in-Turn.is c.args.rec.now.store.now.state.map c.args.tags.now c.args.out.now (turn-changes (shape_of c.args.rec.now.store.now.state.map) c.in-Turn.body c.in-Turn.axis c.in-Turn.turns)
 
 pub returns-in-SetAttr-clause-done : goal.returns-in-SetAttr-clause-done
 returns-in-SetAttr-clause-done g c =

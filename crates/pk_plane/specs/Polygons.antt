@@ -6,6 +6,8 @@ use Rattle.std.specs.Option.{option_or}
 use Rattle.std.specs.List.{range_with_len, list_any, fold}
 use Rattle.std.specs.Ordering.{int_eq}
 use Rattle.pk_base.specs.declared.entity.Pair.{Pair}
+use Rattle.pk_plane.specs.declared.segment.Segment.{Segment}
+use Rattle.pk_plane.specs.Sizes.{IsPairWithin, reach}
 
 abbrev pub origin : Pair
 origin = record { x = pos 0; y = pos 0 }
@@ -20,9 +22,10 @@ side a b c =
 abbrev pub dot_from : Pair → Pair → Pair → ℤ
 dot_from p a b = ((a.x -ℤ p.x) *ℤ (b.x -ℤ p.x)) +ℤ ((a.y -ℤ p.y) *ℤ (b.y -ℤ p.y))
 
-pub record Segment : Type 0 where
-  pub start : Pair
-  pub end : Pair
+-- the ends of the segment have coordinates
+pub record IsPlaced (s : Segment) : Type 0 where
+  pub start : IsPairWithin reach s.start
+  pub end : IsPairWithin reach s.end
 
 -- the point stands on the closed segment: in its line, and not outside its ends
 abbrev pub is_on : Segment → Pair → Bool

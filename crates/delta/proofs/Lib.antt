@@ -1,0 +1,5 @@
+-- In reading order.
+pub mod Places
+pub mod Leads
+pub mod Merged
+pub mod Applied

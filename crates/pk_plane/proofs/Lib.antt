@@ -1,0 +1,5 @@
+-- In reading order.
+pub mod Within
+pub mod Exact
+pub mod Searches
+pub mod Areas
