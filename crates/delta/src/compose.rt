@@ -47,7 +47,28 @@ impl Delta {
     {
         // More changes than are counted here are more than memory holds.
         let most = a.len().checked_add(b.len()).ok_or(NoMemory)?;
-        let mut out = ChangeListBuilder::with_room(alloc, most)?;
+        let out = ChangeListBuilder::with_room(alloc, most)?;
+        Ok(Delta::compose_within(out, a, b, steps))
+    }
+
+    /// The same delta, made in an empty list with room for all changes of both. It takes no memory.
+    pub fn compose_within<L: Ledger>(
+        mut out: ChangeListBuilder,
+        a: &Delta,
+        b: &Delta,
+        steps: &mut Steps<L>,
+    ) -> Delta
+        requires follows { Follows a.now b.now }
+        requires empty { out.items ≡ [] }
+        requires room { length a.now + length b.now ≤ out.spare }
+        requires fits { length a.now + length b.now < 2 ^ 64 }
+        ensures merged { result ≡ composed a.now b.now }
+        // From whatever map both lead, it is the net change to where they lead.
+        ensures net { (m : EntityMap) → StartsAt m a.now → StartsAt (after m a.now) b.now
+            → result ≡ net_changes m (after (after m a.now) b.now) }
+        ensures cost { steps.new ≤ steps.old + 2 * (length a.now + length b.now) }
+    {
+        let most = a.len() + b.len();
         let mut taken = Taken {
             first: 0,
             second: 0,
@@ -55,7 +76,7 @@ impl Delta {
         while taken.first + taken.second < most {
             taken = take_next(a, b, taken, &mut out, steps);
         }
-        Ok(Delta::from_changes(out.finish()))
+        Delta::from_changes(out.finish())
     }
 }
 

@@ -17,3 +17,6 @@ pub mod KfmrhReached
 pub mod KfmrhDone
 pub mod RingMoveFound
 pub mod RingMoveReached
+pub mod OwnersBelow
+pub mod BelowCounted
+pub mod DeleteReached

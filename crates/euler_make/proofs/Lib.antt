@@ -17,3 +17,16 @@ pub mod MekrDone
 pub mod MfkrhFound
 pub mod MfkrhReached
 pub mod MfkrhDone
+pub mod TurnedLists
+pub mod CutMade
+pub mod EdgeRaised
+pub mod EdgesRaised
+pub mod SidesCut
+pub mod Folded
+pub mod CutsDone
+pub mod LoopRead
+pub mod EdgesDone
+pub mod RaiseDone
+pub mod SweepFound
+pub mod LoopWalk
+pub mod NewellSums

@@ -35,10 +35,10 @@ use Rattle.solid_edits.proofs.Going.{goes-past}
 abbrev pub strut_items : End → Triple → Tag → Tag → Tag → Tag → List (Tag × Item)
 strut_items u at w e n m = (w, Vertex u.body (point_of at)) ∷ (e, Edge u.body) ∷ (n, Fin m e u.vertex) ∷ (m, Fin n e w) ∷ (u.loop_, ring_of u.face (n ∷ m ∷ u.fins)) ∷ []
 
-abbrev mev_makes : Shape → Triple → End → Row
+abbrev pub mev_makes : Shape → Triple → End → Row
 mev_makes S at u = makes_four (λ w e n m. S with strut_items u at w e n m)
 
-abbrev mev_from : Shape → Triple → End → Row
+abbrev pub mev_from : Shape → Triple → End → Row
 mev_from S at u = refuse_outside is_coordinate (numbers_of at) >> mev_makes S at u
 
 pub mev-row : (S : Shape) (t : Tag) (at : Triple) (u : End) → end_at S t ≡ Ok u → IsOk (mev S t at) → mev S t at ≡ mev_makes S at u

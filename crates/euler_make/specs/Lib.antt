@@ -1,2 +1,4 @@
 -- In reading order.
 pub mod FirstFins
+pub mod Cutting
+pub mod Raising

@@ -7,6 +7,8 @@ pub use mekr::{mekr_do, mekr_need};
 pub use mev::{mev_do, mev_need};
 pub use mfkrh::{mfkrh_do, mfkrh_need};
 pub use mvfs::{mvfs_do, mvfs_need};
+pub use raise::raise_face;
+pub use sweep::{sweep_do, sweep_need};
 
 mod beside;
 mod mef;
@@ -14,4 +16,6 @@ mod mekr;
 mod mev;
 mod mfkrh;
 mod mvfs;
-mod points;
+mod outline;
+mod raise;
+mod sweep;

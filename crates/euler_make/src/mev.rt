@@ -12,13 +12,12 @@ ghost use Rattle.solid_edits.specs.Faces.{IsLoop};
 ghost use Rattle.euler_make.specs.FirstFins.{first_named};
 
 use crate::beside::number_beside;
-use crate::points::{outside, point_of};
 use entity_store::{Need, Recorder, Steps, Store, Tags};
 use halfedge::insert_pair;
 use pk_base::{Entity, Refusal, Tag, TagListBuilder, Triple};
 use solid_calls::take_tag;
 use solid_edits::{NewEdge, NewFin, put_edge};
-use solid_places::end_at;
+use solid_places::{end_at, outside, point_of};
 use std::sync::ledger::Ledger;
 
 /// An edge to a new vertex: the fin out starts at the other end, the fin back at the new vertex.

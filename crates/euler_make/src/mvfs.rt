@@ -9,11 +9,11 @@ ghost use Rattle.solid_calls.specs.Pairs.{HasDone, HasTags, MayDo, NeedsAsRow, T
 ghost use Rattle.entity_store.specs.Room.{HasRoomForThese, PutsAmong};
 ghost use Rattle.solid_edits.specs.BareParts.{AreHostedBy, IsMadeOf, tags_of_parts, with_bare_body};
 
-use crate::points::{outside, point_of};
 use entity_store::{Need, Recorder, Steps, Store, Tags};
 use pk_base::{Entity, Point, Refusal, TagListBuilder, Triple};
 use solid_calls::take_tag;
 use solid_edits::BareParts;
+use solid_places::{outside, point_of};
 use std::sync::ledger::Ledger;
 
 /// How many entities a body of one vertex has.

@@ -17,6 +17,7 @@ mod kept;
 mod marks;
 mod operands;
 mod reading;
+mod thousand;
 mod walk;
 mod walks;
 

@@ -1,2 +1,4 @@
+mod Needing
 mod PlainCalls
 mod Performing
+mod Telling

@@ -1,4 +1,4 @@
--- What is performed of a call that is done, from what its own function asks and promises.
+-- What is performed of a call, from what its own function requires and promises.
 use Rattle.std.proofs.Common.{◌≡◌, ℕ, zero, suc, ◌+◌, ◌≤◌, ⊎_elim, Bool, true, false, cond, List, [], ◌∷◌, ◌++◌, length, take, Ok, Err, refl, sym, ap, subst, ◌∙◌, arith}
 use Rattle.std.specs.Prelude.{Contains, IsOk, IsTrue}
 use Rattle.std.specs.List.{AllByRecursion}
@@ -17,21 +17,19 @@ use Rattle.entity_store.specs.Recorder.{Records}
 use Rattle.entity_store.specs.Recording.{room_left}
 use Rattle.entity_store.specs.Store.{StoreView}
 use Rattle.solid_model.specs.Items.{Shape}
-use Rattle.solid_model.specs.Rows.{Row, cost_of}
+use Rattle.solid_model.specs.Rows.{Row, cost_of, tells}
 use Rattle.solid_model.specs.Rows.Effect.{Makes, Changes, Tells}
 use Rattle.solid_model.specs.Links.{links}
 use Rattle.solid_model.specs.Shapes.{shape_of}
 use Rattle.solid_model.specs.Calls.{row_of}
 use Rattle.solid_model.specs.Room.{puts_of, tags_changed, tags_put}
 use Rattle.solid_model.proofs.Room.{length-tags_put}
-use Rattle.entity_store.proofs.Room.{puts-wider, records-of, room-of_length, room-part}
+use Rattle.entity_store.proofs.Room.{puts-none, puts-wider, records-of, room-of_length, room-part}
 use Rattle.list_facts.proofs.Elements.{Contains-take, not_in_nil}
-use Rattle.solid_model.specs.Euler as all
 use Rattle.solid_model.specs.Euler.{list_of, step_by}
 use Rattle.solid_calls.specs.Pairs.{HasDone, HasTags, MayDo, Takes, reached, row_on}
 use Rattle.solid_calls.proofs.NextTags.{takes-none}
-use Rattle.modeller.specs.Euler.{euler, is_done}
-use Rattle.modeller.specs.EulerLaws.{no_call}
+use Rattle.modeller.specs.Euler.{euler}
 use Rattle.modeller.specs.Replies.{reply_of}
 use Rattle.solid_calls.proofs.RowKinds.{IsChanging, IsPlain, cost-changing}
 
@@ -41,29 +39,17 @@ row-goes : (m : EntityMap) (tags : List Tag) (row : Row) → IsOk (step_by m tag
 row-goes m tags (Ok effect) h = refl
 row-goes m tags (Err e) h = absurd (cc)
 
--- the call that is performed is done: any other is refused
-pub done-goes : (s : StoreView) (c : Call) (tags : TagsView) (out : Building Tag) → MayPerform euler s c tags out → is_done c ≡ true
-done-goes s c tags out may = from_goes (is_done c) may.goes
-  where
-    from_goes : (b : Bool) → IsOk (cond b (all.euler.step s.state.map c (left tags)) no_call) → b ≡ true
-    from_goes true h = refl
-    from_goes false h = absurd (cc)
-
 module _ (s : StoreView) (c : Call) (tags : TagsView) (out : Building Tag) (may : MayPerform euler s c tags out) where
-  is : is_done c ≡ true
-  is = done-goes s c tags out may
-
   goes : IsOk (row_on s.state.map c)
-  goes = row-goes s.state.map (left tags) (row_on s.state.map c) (subst (λ b. IsOk (cond b (all.euler.step s.state.map c (left tags)) no_call)) is may.goes)
+  goes = row-goes s.state.map (left tags) (row_on s.state.map c) may.goes
 
   pub may-do : MayDo s c (left tags)
   may-do =
       let S : Shape = shape_of s.state.map in
-      let fits = subst (λ b. cond b (puts_of S c) 0 ≤ room_left s.recording) is may.changes in
       record {
         sound = may.asked.sound;
         goes = goes;
-        room = room-of_length s.recording (tags_put S c (left tags)) (omega (arith, length-tags_put S c (left tags), fits));
+        room = room-of_length s.recording (tags_put S c (left tags)) (omega (arith, length-tags_put S c (left tags), may.changes));
       }
 
   list-cost : (row : Row) → cost_of row ≤ list_of row
@@ -73,14 +59,31 @@ module _ (s : StoreView) (c : Call) (tags : TagsView) (out : Building Tag) (may 
   list-cost (Err e) = omega arith
 
   pub has-tags : HasTags s (cost_of (row_on s.state.map c)) tags out
-  has-tags =
-      let listed = subst (λ b. cond b (list_of (row_on s.state.map c)) 0 ≤ out.spare) is may.list in
+  has-tags = record {
+    enough = may.asked.enough;
+    ascend = may.asked.ascend;
+    free = may.asked.free;
+    owned = may.owned;
+    spare = omega (arith, list-cost (row_on s.state.map c), may.list);
+  }
+
+  -- there is room for what is listed
+  pub has-room : list_of (row_on s.state.map c) ≤ out.spare
+  has-room = may.list
+
+  -- what is told is performed: nothing changes, and no tag is taken
+  pub performs-told : (reply : Reply) → row_on s.state.map c ≡ tells reply → Performs euler s c tags reply s tags
+  performs-told reply row =
+      let m = s.state.map in
+      let o : Outcome = record { map = m; reply = reply } in
+      let free : cost_of (row_on m c) ≡ 0 = ap cost_of row in
       record {
-        enough = subst (λ b. cond b (cost_of (row_on s.state.map c)) 0 ≤ length (left tags)) is may.asked.enough;
-        ascend = may.asked.ascend;
-        free = may.asked.free;
-        owned = subst (λ b. AllByRecursion (λ t. IsTrue (owns s.state.blocks t)) (take (cond b (cost_of (row_on s.state.map c)) 0) (left tags))) is may.owned;
-        spare = omega (arith, list-cost (row_on s.state.map c), listed);
+        outcome = o;
+        steps = ap (step_by m (left tags)) row;
+        replies = refl;
+        state = refl;
+        takes = subst (λ n. tags ≡ record tags { used = tags.used + n }) (sym free) (takes-none tags out).taken;
+        records = records-of [] (puts_of (shape_of m) c) s s (puts-none [] s) (omega arith);
       }
 
 -- ---- what is done
@@ -107,16 +110,14 @@ performs old new c tags tags' out out' reply may plain done takes replies =
     let m = old.state.map in
     let row = row_on m c in
     let asked = has-tags old c tags out may in
-    let is = done-goes old c tags out may in
     let o : Outcome = record { map = links (reached (shape_of m) (left tags) row); reply = reply_of (take (cost_of row) (left tags)) } in
     record {
       outcome = o;
-      steps = subst (λ b. cond b (all.euler.step m c (left tags)) no_call ≡ Ok o) (sym is) (outcome-is m (left tags) row plain (may-do old c tags out may).goes asked.enough);
+      steps = outcome-is m (left tags) row plain (may-do old c tags out may).goes asked.enough;
       replies = replies ∙ ap reply_of (takes.lists ∙ ap (λ ts. ts ++ take (cost_of row) (left tags)) may.empty);
       state = done.state;
-      takes = subst (λ b. tags' ≡ record tags { used = tags.used + cond b (cost_of row) 0 }) (sym is) takes.taken;
-      records = subst (λ b. Records (cond b (puts_of (shape_of m) c) 0) old new) (sym is)
-          (records-of (tags_put (shape_of m) c (left tags)) (puts_of (shape_of m) c) old new done.puts (length-tags_put (shape_of m) c (left tags)));
+      takes = takes.taken;
+      records = records-of (tags_put (shape_of m) c (left tags)) (puts_of (shape_of m) c) old new done.puts (length-tags_put (shape_of m) c (left tags));
     }
 
 reached-changing : (S : Shape) (tags other : List Tag) (row : Row) → IsChanging row → reached S tags row ≡ reached S other row

@@ -1,5 +1,4 @@
 -- In reading order.
-pub mod Only
 pub mod Euler
 pub mod Replies
 pub mod EulerLaws

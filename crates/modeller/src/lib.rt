@@ -2,6 +2,6 @@
 //! Modeling, 1988).
 #![tactic(auto)]
 
-pub use euler::{Euler, is_done};
+pub use euler::Euler;
 
 mod euler;

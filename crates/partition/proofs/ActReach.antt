@@ -1,81 +1,114 @@
 -- What an act reaches, from what was done to the fields.
-use Rattle.std.proofs.Common.{◌≡◌, ℕ, Bool, true, ◌+◌, ◌*◌, ◌-◌, ◌≤◌, List, [], ◌∷◌, ◌++◌, map, length, Option, Some, Result, Ok, sym, ap, subst, ◌∙◌, arith}
-use Rattle.std.proofs.lemmas.List.{map_push}
-use Rattle.std.specs.List.{AllByRecursion}
-use Rattle.std.specs.FinMap.{get, entries, entries_sorted, from_entries, get-entries, get-from_entries, same_map, is_sorted}
+use Rattle.std.proofs.Common.{◌≡◌, ℕ, Bool, true, cond, None, ◌+◌, ◌*◌, ◌-◌, ◌≤◌, List, [], ◌∷◌, ◌++◌, map, length, Option, Some, Result, Ok, Err, refl, sym, ap, subst, ◌∙◌, arith}
+use Rattle.pk_base.specs.Entity.{same_tag}
 use Rattle.pk_base.specs.declared.tag.Tag.{Tag}
-use Rattle.pk_base.specs.declared.entity.Entity.{Entity}
 use Rattle.pk_base.specs.declared.call.Call.{Call}
 use Rattle.pk_base.specs.declared.act.Act.TheVariants as act
 use Rattle.pk_base.specs.declared.act.Reply.{Reply}
 use Rattle.pk_base.specs.declared.act.Reply.TheVariants as reply
 use Rattle.pk_base.specs.declared.refusal.Refusal.{Refusal}
+use Rattle.pk_base.specs.declared.refusal.Refusal.TheVariants.{InitialMark}
 use Rattle.pk_base.specs.declared.list.Lists.{Lists}
 use Rattle.pk_model.specs.Tags.{spare_of, next_tags, tag_at, tags_of}
-use Rattle.pk_model.specs.Maps.{EntityMap, tag_cmp}
+use Rattle.pk_model.specs.Maps.{EntityMap, diff}
 use Rattle.pk_model.specs.State.{Mark, PartitionState}
 use Rattle.pk_model.specs.Modelling.{Modelling}
-use Rattle.pk_model.specs.Step.{short, Reach, reach_of, call_reaches, goto_reaches}
-use Rattle.pk_model.proofs.TagLists.{tag_total, tag_antisymmetric, tag_at-next_tags}
+use Rattle.pk_model.specs.Step.{◌>>=◌, short, Reach, reach_of, call_reaches, goto_reaches, unmark_reaches, after_deletion, mark_among, parent_of}
+use Rattle.pk_model.proofs.TagLists.{tag_at-next_tags}
 use Rattle.pk_model.proofs.Steps.{enough_tags, reach_of-call, reach_of-goto}
-use Rattle.entity_store.specs.Store.{IsHosted, StoreView}
-use Rattle.list_facts.proofs.Each.{ByRecursion-weaker}
-use Rattle.pk_model.proofs.Keys.{true_from_T}
-use Rattle.partition.specs.MarkCopy.{IsCopy, mark_of}
-use Rattle.partition.specs.Goes.{Made, Went}
+use Rattle.entity_store.specs.Store.{Stored, StoreView}
+use Rattle.pmark_tree.specs.declared.mark.TreeMark.{TreeMark}
+use Rattle.pmark_tree.specs.Marks.{parent_in}
+use Rattle.pmark_tree.specs.Maps.{map_of, whole_marks}
+use Rattle.partition.specs.Goes.{IsFound, Made, whole_of}
 use Rattle.partition.specs.Contents.{state_of}
-use Rattle.partition.specs.declared.marks.MarkCopy.{MarkCopy}
-use Rattle.entity_store.proofs.Live.{all_found}
 
 -- a call that is not short has tags enough
 pub room_for_call : (K : Modelling) (s : PartitionState) (c : Call) → short K s (act.Call c) ≡ 0 → K.cost s.now c ≤ 64 * length s.blocks - s.used
 room_for_call K s c h = enough_tags (K.cost s.now c) (spare_of s.blocks s.used) h
 
-module _ (K : Modelling) (store new : StoreView) (marks : List MarkCopy) (at : Tag) (used : ℕ) (holder : Option ℕ) where
+module _ (K : Modelling) (store new : StoreView) (ks : List TreeMark) (at : Tag) (used : ℕ) (holder : Option ℕ) where
   -- the state before
   abbrev before : PartitionState
-  before = state_of store marks at used holder
+  before = state_of store ks at used holder
 
-  pub call_reached : (c : Call) (r : Reply) (taken : ℕ) → Made K store.state used c r taken new.state → reach_of K before (act.Call c) ≡ Ok (record { state = state_of new marks at (used + taken) holder; reply = r })
+  pub call_reached : (c : Call) (r : Reply) (taken : ℕ) → Made K store.state used c r taken new.state → reach_of K before (act.Call c) ≡ Ok (record { state = state_of new ks at (used + taken) holder; reply = r })
   call_reached c r taken made =
-      let state : StoreView → ℕ → PartitionState = λ s n. state_of s marks at (used + n) holder in
-      let is : (call_reaches K before (K.cost store.state.map c) made.outcome).state ≡ state_of new marks at (used + taken) holder =
-      λ i. record { now = (sym made.store i).map; marks = map mark_of marks; at = at; blocks = (sym made.store i).blocks; used = used + sym made.takes i; holder = holder }
+      let is : (call_reaches K before (K.cost store.state.map c) made.outcome).state ≡ state_of new ks at (used + taken) holder =
+      λ i. record { now = (sym made.store i).map; marks = whole_marks ks; at = at; blocks = (sym made.store i).blocks; used = used + sym made.takes i; holder = holder }
       in
       let with_both : PartitionState → Reply → Result Reach Refusal = λ s a. Ok (record { state = s; reply = a }) in
       reach_of-call K before c made.outcome made.steps ∙ (λ i. with_both (is i) (sym made.replies i))
 
-  pub goto_reached : (m : Tag) (lists : Lists) → Went store.state (map mark_of marks) m lists new.state → reach_of K before (act.Goto m) ≡ Ok (record { state = state_of new marks m used holder; reply = reply.Went lists })
-  goto_reached m lists went =
-      let is : (goto_reaches before went.mark).state ≡ state_of new marks m used holder =
-      λ i. record { now = (sym went.store i).map; marks = map mark_of marks; at = went.tag i; blocks = (sym went.store i).blocks; used = used; holder = holder }
+  pub goto_reached : (m : Tag) (lists : Lists) → IsFound store.state.blocks ks m → lists ≡ diff store.state.map (map_of ks m) → new.state ≡ record store.state { map = map_of ks m } → reach_of K before (act.Goto m) ≡ Ok (record { state = state_of new ks m used holder; reply = reply.Went lists })
+  goto_reached m lists found differs is_new =
+      let is : (goto_reaches before (whole_of ks m)).state ≡ state_of new ks m used holder =
+      λ i. record { now = (sym is_new i).map; marks = whole_marks ks; at = m; blocks = (sym is_new i).blocks; used = used; holder = holder }
       in
       let with_both : PartitionState → Reply → Result Reach Refusal = λ s a. Ok (record { state = s; reply = a }) in
-      reach_of-goto K before m went.mark went.found ∙ (λ i. with_both (is i) (reply.Went (sym went.differs i)))
+      reach_of-goto K before m (whole_of ks m) found.found ∙ (λ i. with_both (is i) (reply.Went (sym differs i)))
 
   -- a refused act leaves the state
-  pub state_stays : new.state ≡ store.state → state_of new marks at used holder ≡ before
-  state_stays same = λ i. record { now = (same i).map; marks = map mark_of marks; at = at; blocks = (same i).blocks; used = used; holder = holder }
+  pub state_stays : new.state ≡ store.state → state_of new ks at used holder ≡ before
+  state_stays same = λ i. record { now = (same i).map; marks = whole_marks ks; at = at; blocks = (same i).blocks; used = used; holder = holder }
 
   -- a mark stands for the state now, and is current
-  pub mark_reached : (copy : MarkCopy) → copy.tag ≡ tag_at (tags_of store.state.blocks) used → copy.parent ≡ Some at → from_entries copy.entities.items ≡ store.state.map → copy.live ≡ true → reach_of K before act.Mark ≡ Ok (record { state = state_of store (marks ++ copy ∷ []) copy.tag (used + 1) holder; reply = reply.Made (copy.tag ∷ []) })
-  mark_reached copy place parent stands live =
+  pub mark_reached : (t : Tag) (n : EntityMap) (new_ks : List TreeMark) → t ≡ tag_at (tags_of store.state.blocks) used → n ≡ store.state.map → whole_marks new_ks ≡ whole_marks ks ++ record { tag = t; parent = Some at; map = n; live = true } ∷ []
+      → reach_of K before act.Mark ≡ Ok (record { state = state_of store new_ks t (used + 1) holder; reply = reply.Made (t ∷ []) })
+  mark_reached t n new_ks place stands whole =
       let next = tag_at (next_tags store.state.blocks used) 0 in
-      let tag_is : next ≡ copy.tag = tag_at-next_tags store.state.blocks used 0 ∙ ap (tag_at (tags_of store.state.blocks)) (omega arith) ∙ sym place in
-      let made : Tag → Option Tag → EntityMap → Bool → Mark = λ u q m b. record { tag = u; parent = q; map = m; live = b } in
-      let mark_is : made next (Some at) store.state.map true ≡ mark_of copy = λ i. made (tag_is i) (sym parent i) (sym stands i) (sym live i) in
-      let marks_are : map mark_of marks ++ made next (Some at) store.state.map true ∷ [] ≡ map mark_of (marks ++ copy ∷ []) = ap (λ k. map mark_of marks ++ k ∷ []) mark_is ∙ sym (map_push mark_of marks copy) in
-      let state : List Mark → Tag → PartitionState = λ ks u. record { now = store.state.map; marks = ks; at = u; blocks = store.state.blocks; used = used + 1; holder = holder } in
+      let tag_is : next ≡ t = tag_at-next_tags store.state.blocks used 0 ∙ ap (tag_at (tags_of store.state.blocks)) (omega arith) ∙ sym place in
+      let made : Tag → EntityMap → Mark = λ u m. record { tag = u; parent = Some at; map = m; live = true } in
+      let marks_are : whole_marks ks ++ made next store.state.map ∷ [] ≡ whole_marks new_ks = (λ i. whole_marks ks ++ made (tag_is i) (sym stands i) ∷ []) ∙ sym whole in
+      let state : List Mark → Tag → PartitionState = λ ms u. record { now = store.state.map; marks = ms; at = u; blocks = store.state.blocks; used = used + 1; holder = holder } in
       let answer : PartitionState → Tag → Result Reach Refusal = λ s u. Ok (record { state = s; reply = reply.Made (u ∷ []) }) in
       λ i. answer (state (marks_are i) (tag_is i)) (tag_is i)
 
--- the entities of a map make it again
-pub from_entries-entries : (m : EntityMap) → from_entries (entries m) ≡ m
-from_entries-entries m = same_map tag_total tag_antisymmetric _ m (λ q. get-from_entries tag_total (entries m) q ∙ sym (get-entries m q))
+  -- ---- a mark that is deleted
 
--- what is copied of a store, whose entities are hosted, is a copy
-pub copied : (blocks : List ℕ) (m : EntityMap) (copy : MarkCopy) → copy.entities.items ≡ entries m → ((t : Tag) (e : Entity) → get m t ≡ Some e → IsHosted blocks t e) → IsCopy blocks copy
-copied blocks m copy same hosted =
-    let sorted = true_from_T (is_sorted tag_cmp (entries m)) (entries_sorted m) in
-    let each = ByRecursion-weaker _ (λ p. IsHosted blocks p.0 p.1) (λ p f. hosted p.0 p.1 f) (entries m) (all_found m) in
-    record { sorted = ap (is_sorted tag_cmp) same ∙ sorted; hosted = subst (AllByRecursion (λ p. IsHosted blocks p.0 p.1)) (sym same) each }
+  pub unmark_refused : (m : Tag) (e : Refusal) → (mark_among store.state.blocks (whole_marks ks) m >>= parent_of) ≡ Err e → reach_of K before (act.Unmark m) ≡ Err e
+  unmark_refused m e h =
+      elim (mark_among store.state.blocks (whole_marks ks) m) as (λ r. (r >>= parent_of) ≡ Err e → (r >>= (λ k. parent_of k >>= (λ p. Ok (unmark_reaches before m p)))) ≡ Err e) [
+        | Ok k ↦ λ f. ap (λ (r : Result Tag Refusal). r >>= (λ p. Ok (unmark_reaches before m p))) f
+        | Err d ↦ λ f. let same : d ≡ e = cc in ap {B = Result Reach Refusal} (λ (x : Refusal). Err x) same
+      ] h
+
+  pub unmark_reached : (m p : Tag) (new_ks : List TreeMark) (new_at : Tag) → IsFound store.state.blocks ks m → parent_in ks m ≡ Some p → whole_marks new_ks ≡ map (after_deletion m p) (whole_marks ks) → new_at ≡ cond (same_tag at m) p at
+      → reach_of K before (act.Unmark m) ≡ Ok (record { state = state_of store new_ks new_at used holder; reply = reply.Done })
+  unmark_reached m p new_ks new_at found parent whole at_is =
+      let parent_is : parent_of (whole_of ks m) ≡ Ok p = ap {B = Result Tag Refusal} (λ (o : Option Tag). elim o as (λ _. Result Tag Refusal) [ None ↦ Err InitialMark | Some q ↦ Ok q ]) parent in
+      let then : Mark → Result Reach Refusal = λ k. parent_of k >>= (λ q. Ok (unmark_reaches before m q)) in
+      let is : (unmark_reaches before m p).state ≡ state_of store new_ks new_at used holder =
+      λ i. record { now = store.state.map; marks = sym whole i; at = sym at_is i; blocks = store.state.blocks; used = used; holder = holder }
+      in
+      ap (λ (r : Result Mark Refusal). r >>= then) found.found
+      ∙ ap (λ (r : Result Tag Refusal). r >>= (λ q. Ok (unmark_reaches before m q))) parent_is
+      ∙ ap {B = Result Reach Refusal} (λ (s : PartitionState). Ok (record { state = s; reply = reply.Done })) is
+
+  -- ---- a difference that is asked for
+
+  pub delta_refused : (m : Tag) (e : Refusal) → (mark_among store.state.blocks (whole_marks ks) m >>= parent_of) ≡ Err e → reach_of K before (act.Delta m) ≡ Err e
+  delta_refused m e h =
+      let last : Mark → Mark → Result Reach Refusal = λ k q. Ok (record { state = before; reply = reply.Delta (diff q.map k.map) }) in
+      elim (mark_among store.state.blocks (whole_marks ks) m) as (λ r. (r >>= parent_of) ≡ Err e → (r >>= (λ k. parent_of k >>= (λ p. mark_among store.state.blocks (whole_marks ks) p >>= last k))) ≡ Err e) [
+        | Ok k ↦ λ f. ap (λ (r : Result Tag Refusal). r >>= (λ p. mark_among store.state.blocks (whole_marks ks) p >>= last k)) f
+        | Err d ↦ λ f. let same : d ≡ e = cc in ap {B = Result Reach Refusal} (λ (x : Refusal). Err x) same
+      ] h
+
+  -- so far the mark and its parent were found
+  delta_found : (m p : Tag) → IsFound store.state.blocks ks m → parent_in ks m ≡ Some p → reach_of K before (act.Delta m) ≡ (mark_among store.state.blocks (whole_marks ks) p >>= (λ q. Ok (record { state = before; reply = reply.Delta (diff q.map (map_of ks m)) })))
+  delta_found m p found parent =
+      let last : Mark → Mark → Result Reach Refusal = λ k q. Ok (record { state = before; reply = reply.Delta (diff q.map k.map) }) in
+      let parent_is : parent_of (whole_of ks m) ≡ Ok p = ap {B = Result Tag Refusal} (λ (o : Option Tag). elim o as (λ _. Result Tag Refusal) [ None ↦ Err InitialMark | Some q ↦ Ok q ]) parent in
+      ap (λ (r : Result Mark Refusal). r >>= (λ k. parent_of k >>= (λ p. mark_among store.state.blocks (whole_marks ks) p >>= last k))) found.found
+      ∙ ap (λ (r : Result Tag Refusal). r >>= (λ p. mark_among store.state.blocks (whole_marks ks) p >>= last (whole_of ks m))) parent_is
+
+  pub delta_unfound : (m p : Tag) (e : Refusal) → IsFound store.state.blocks ks m → parent_in ks m ≡ Some p → mark_among store.state.blocks (whole_marks ks) p ≡ Err e → reach_of K before (act.Delta m) ≡ Err e
+  delta_unfound m p e found parent none =
+      delta_found m p found parent ∙ ap (λ (r : Result Mark Refusal). r >>= (λ q. Ok (record { state = before; reply = reply.Delta (diff q.map (map_of ks m)) }))) none
+
+  pub delta_reached : (m p : Tag) (lists : Lists) → IsFound store.state.blocks ks m → parent_in ks m ≡ Some p → IsFound store.state.blocks ks p → lists ≡ diff (map_of ks p) (map_of ks m) → reach_of K before (act.Delta m) ≡ Ok (record { state = before; reply = reply.Delta lists })
+  delta_reached m p lists found parent found_parent differs =
+      delta_found m p found parent
+      ∙ ap (λ (r : Result Mark Refusal). r >>= (λ q. Ok (record { state = before; reply = reply.Delta (diff q.map (map_of ks m)) }))) found_parent.found
+      ∙ ap {B = Result Reach Refusal} (λ (l : Lists). Ok (record { state = before; reply = reply.Delta l })) (sym differs)

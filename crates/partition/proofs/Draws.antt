@@ -11,12 +11,7 @@ use Rattle.pk_model.specs.Modelling.{Modelling, IsModeller}
 use Rattle.pk_model.specs.Step.{short, step, Stepped, without_answer}
 use Rattle.pk_model.specs.Replay.{replay}
 use Rattle.pk_model.proofs.Steps.{holder_holds}
-use Rattle.list_facts.proofs.Each.{ByRecursion-weaker}
 use Rattle.pk_model.proofs.TagsTaken.{replay-kept}
-use Rattle.entity_store.specs.Store.{IsHosted}
-use Rattle.entity_store.proofs.KeptSlots.{hosted_more}
-use Rattle.partition.specs.MarkCopy.{IsCopy}
-use Rattle.partition.specs.declared.marks.MarkCopy.{MarkCopy}
 
 pub step-drew : (K : Modelling) (s : PartitionState) (t b : ℕ) → s.holder ≡ Some t → list_all (λ o. nat_lt o b) s.blocks ≡ true → step K s (Drew t b) ≡ Some (record { state = record s { blocks = s.blocks ++ b ∷ [] }; answer = None })
 step-drew K s t b holds above =
@@ -38,10 +33,3 @@ above_first b p drawn blocks is above =
 -- a block above those of a partition is one from 1 on
 pub drawn_from_1 : (K : Modelling) → IsModeller K → (p b : ℕ) (journal : List Entry) (s : PartitionState) → replay K p journal ≡ Some s → list_all (λ o. nat_lt o b) s.blocks ≡ true → 1 ≤ b
 drawn_from_1 K good p b journal s replays above = let kept = replay-kept K good p journal s replays in above_first b p _ s.blocks kept.blocks above
-
--- a copy is one also with more blocks
-pub IsCopy-more : (blocks more : List ℕ) (k : MarkCopy) → IsCopy blocks k → IsCopy (blocks ++ more) k
-IsCopy-more blocks more k copy = record {
-  sorted = copy.sorted;
-  hosted = ByRecursion-weaker (λ p. IsHosted blocks p.0 p.1) (λ p. IsHosted (blocks ++ more) p.0 p.1) (λ p h. hosted_more blocks more p.0 p.1 h) k.entities.items copy.hosted;
-}

@@ -1,7 +1,9 @@
 -- What a partition's state stands for, and what an act does to it.
-use Rattle.std.specs.Prelude.{◌≡◌, ℕ, ◌*◌, ◌≤◌, List, map, length, Option, Result, Ok, Err, refl}
+use Rattle.std.specs.Prelude.{◌≡◌, ℕ, ◌*◌, ◌≤◌, List, take, true, length, Option, Some, Result, Ok, Err, Contains, refl}
 use Rattle.std.specs.List.{AllByRecursion}
+use Rattle.std.specs.FinMap.{get}
 use Rattle.pk_base.specs.declared.tag.Tag.{Tag}
+use Rattle.pk_base.specs.declared.entity.Entity.{Entity}
 use Rattle.pk_base.specs.declared.tag.TheConstants.{TAGS_OF_A_BLOCK, LAST_BLOCK}
 use Rattle.pk_base.specs.declared.act.Act.{Act}
 use Rattle.pk_base.specs.declared.act.Reply.{Reply}
@@ -9,12 +11,17 @@ use Rattle.pk_base.specs.declared.refusal.Refusal.{Refusal}
 use Rattle.pk_base.specs.declared.refusal.NoMemory.{NoMemory}
 use Rattle.std.specs.Coded.{Coded, code_by, coded×, coded_ℕ}
 use Rattle.pk_model.specs.Codes.{state_code}
-use Rattle.pk_model.specs.State.{PartitionState}
+use Rattle.pk_model.specs.Tags.{tags_of}
+use Rattle.pk_model.specs.Maps.{EntityMap}
+use Rattle.pk_model.specs.State.{Mark, PartitionState}
 use Rattle.pk_model.specs.Modelling.{Modelling}
 use Rattle.pk_model.specs.Step.{reach_of}
-use Rattle.entity_store.specs.Store.{StoreView}
-use Rattle.partition.specs.MarkCopy.{IsCopy, mark_of}
-use Rattle.partition.specs.declared.marks.MarkCopy.{MarkCopy}
+use Rattle.entity_store.specs.declared.changes.Change.{Change}
+use Rattle.entity_store.specs.Changes.{net_changes}
+use Rattle.entity_store.specs.Store.{IsHosted, StoreView}
+use Rattle.pmark_tree.specs.declared.mark.TreeMark.{TreeMark}
+use Rattle.pmark_tree.specs.Marks.{is_live}
+use Rattle.pmark_tree.specs.Maps.{map_of, whole_marks}
 
 -- what contracts inside the crate see: the state, and for how many more blocks there is room
 pub record ContentsView : Type 0 where
@@ -25,21 +32,35 @@ abbrev pub contents_code : Coded ContentsView
 contents_code = code_by (PartitionState × ℕ) (coded× state_code coded_ℕ)
     (λ v. (v.state, v.reserved)) (λ p. record { state = p.0; reserved = p.1 }) (λ _. refl)
 
-abbrev pub state_of : StoreView → List MarkCopy → Tag → ℕ → Option ℕ → PartitionState
+-- the marks of the tree stand for their whole maps
+abbrev pub state_of : StoreView → List TreeMark → Tag → ℕ → Option ℕ → PartitionState
 state_of store marks at used holder = record {
   now = store.state.map;
-  marks = map mark_of marks;
+  marks = whole_marks marks;
   at = at;
   blocks = store.state.blocks;
   used = used;
   holder = holder;
 }
 
--- the list of the blocks is the store's, each mark has its copy, no more tags are taken than the
--- blocks have, and the blocks are no more than there may be
-pub record AreContents (blocks list : List ℕ) (marks : List MarkCopy) (used : ℕ) : Type 0 where
+-- each entity stands in one of these blocks, and so does its owner
+abbrev pub AreHosted : List ℕ → EntityMap → Type 0
+AreHosted blocks m = (t : Tag) (e : Entity) → get m t ≡ Some e → IsHosted blocks t e
+
+-- the mark has one of the tags that were taken, and its entities are hosted
+pub record IsOurs (blocks : List ℕ) (used : ℕ) (k : Mark) : Type 0 where
+  pub taken : Contains (take used (tags_of blocks)) k.tag
+  pub hosted : AreHosted blocks k.map
+
+-- The list of the blocks is the store's, no more tags are taken than the blocks have, and the
+-- blocks are no more than there may be. The current mark is live, and what is unsaved is the net
+-- change from what it stands for to what there is now.
+pub record AreContents (blocks list : List ℕ) (now : EntityMap) (marks : List TreeMark)
+    (unsaved : List Change) (at : Tag) (used : ℕ) : Type 0 where
   pub listed : list ≡ blocks
-  pub copies : AllByRecursion (IsCopy blocks) marks
+  pub ours : AllByRecursion (IsOurs blocks used) (whole_marks marks)
+  pub lives : is_live marks at ≡ true
+  pub net : unsaved ≡ net_changes (map_of marks at) now
   pub within : used ≤ TAGS_OF_A_BLOCK * length blocks
   pub few : length blocks ≤ LAST_BLOCK
 

@@ -1,6 +1,5 @@
 -- In reading order.
 pub mod Partition
-pub mod MarkCopy
+pub mod Work
 pub mod Contents
-pub mod Copies
 pub mod Goes

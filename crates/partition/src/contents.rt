@@ -1,28 +1,34 @@
 //! What a partition's state stands for.
-ghost use Rattle.std.specs.Prelude.{◌≡◌, ◌+◌, ◌<◌, ◌≤◌, ◌++◌, ◌∷◌, [], length, nat_lt, IfOk, OnOk, IsTrue, None, Some, Ok};
+ghost use Rattle.std.specs.Prelude.{◌≡◌, ◌+◌, ◌*◌, ◌<◌, ◌≤◌, ◌++◌, ◌∷◌, [], length, map, nat_lt, true, IfErr, IfOk, OnOk, OnErr, IsSome, IsTrue, None, Some, Ok};
 ghost use Rattle.std.specs.List.{list_all};
 ghost use Rattle.pk_base.specs.declared.act.Reply.TheVariants as reply;
 ghost use Rattle.pk_base.specs.declared.act.Act.TheVariants as act;
 ghost use Rattle.pk_model.specs.Tags.{next_tags, spare_of};
 ghost use Rattle.pk_model.specs.State.{opening};
 ghost use Rattle.pk_model.specs.Modelling.{MayBeAsked};
-ghost use Rattle.pk_model.specs.Step.{act_cost, live_rows};
+ghost use Rattle.pk_base.specs.declared.tag.Tag.{Tag};
+ghost use Rattle.pk_model.specs.Maps.{EntityMap};
+ghost use Rattle.pk_model.specs.Step.{act_cost, after_deletion, live_rows};
+ghost use Rattle.entity_store.specs.Changes.{net_changes};
+ghost use Rattle.delta.specs.Deltas.{StartsAt};
+ghost use Rattle.pmark_tree.specs.Marks.{is_live, parent_in};
+ghost use Rattle.pmark_tree.specs.Maps.{map_of, whole_marks};
+ghost use Rattle.partition.specs.Work.{work};
 ghost use Rattle.partition.specs.Contents.{Does};
 
-use crate::copies::copy_entities;
-use crate::difference::difference;
 use crate::goes::go;
-use crate::marks::{
-    MarkCopy, count_live, delete_mark, list_live, live_mark, parent_of, with_parent,
-};
+use crate::marks::{check_live, list_live, parent_of};
 use crate::perform::perform;
+use delta::Delta;
 use entity_store::{Modeller, Steps, Store, Tags};
 use pk_base::{
     Act, Call, LAST_BLOCK, MarkListBuilder, NoMemory, Refusal, Reply, TAGS_OF_A_BLOCK, Tag,
     TagListBuilder,
 };
+use pmark_tree::MarkTree;
 use std::alloc::Global;
 use std::marker::Model;
+use std::mem;
 use std::sync::ledger::Ledger;
 
 /// The entities that are live, the marks with the current one, how many tags were taken, and the
@@ -35,8 +41,11 @@ pub(crate) struct Contents<K: Modeller> {
     store: Store,
     // The store's blocks, for while the store is lent to a recorder.
     blocks: Vec<u32>,
-    marks: Vec<MarkCopy>,
+    tree: MarkTree,
     at: Tag,
+    // How the store differs from what the current mark stands for: each tag that differs has here
+    // what it named then.
+    unsaved: Delta,
     used: u64,
     holder: Option<u32>,
 }
@@ -52,11 +61,13 @@ impl<K: Modeller> Model for Contents<K> {
     ghost use Rattle.partition.specs.Contents.{AreContents, state_of};
 
     ghost view = { λ c. record {
-      state = state_of c.store c.marks.items c.at c.used c.holder;
+      state = state_of c.store c.tree.marks c.at c.used c.holder;
       reserved = min c.store.reserved (vec_capacity c.blocks - vec_len c.blocks);
     } };
 
-    ghost invariant = { λ c. AreContents c.store.state.blocks c.blocks.items c.marks.items c.used };
+    ghost invariant = { λ c.
+        AreContents c.store.state.blocks c.blocks.items c.store.state.map c.tree.marks c.unsaved
+        c.at c.used };
 }
 
 impl<K: Modeller> Contents<K> {
@@ -71,20 +82,15 @@ impl<K: Modeller> Contents<K> {
         let mut blocks = Vec::new(alloc);
         blocks.push(p)?;
         let initial = Tag::first_of(p);
-        let mut marks = Vec::new(alloc);
-        marks.push(MarkCopy {
-            tag: initial,
-            parent: None,
-            entities: Vec::new(alloc),
-            live: true,
-        })?;
+        let tree = MarkTree::begin(alloc, initial)?;
         Ok(Contents {
             alloc,
             kind,
             store,
             blocks,
-            marks,
+            tree,
             at: initial,
+            unsaved: Delta::empty(alloc),
             used: 1,
             holder: None,
         })
@@ -158,6 +164,7 @@ impl<K: Modeller> Contents<K> {
             self.alloc,
             &self.kind,
             &mut self.store,
+            &mut self.unsaved,
             &self.blocks,
             self.used,
             call,
@@ -172,27 +179,19 @@ impl<K: Modeller> Contents<K> {
     }
 
     /// Keeps the state as a new mark with the next tag, below the current mark, and makes it the
-    /// current one.
-    pub(crate) fn mark<L: Ledger>(
-        &mut self,
-        steps: &mut Steps<L>,
-    ) -> Result<Result<Reply, Refusal>, NoMemory>
+    /// current one. What is unsaved is its difference from the current mark, so no entity is read.
+    pub(crate) fn mark(&mut self) -> Result<Result<Reply, Refusal>, NoMemory>
         requires { 0 < spare_of self.old.state.blocks self.old.state.used }
         ensures { Does K.modelling self.old.state act.Mark result self.new.state }
     {
-        self.marks.reserve(1)?;
+        self.tree.reserve()?;
         let mut made = TagListBuilder::with_room(self.alloc, 1)?;
-        let entities = copy_entities(self.alloc, &self.store, steps)?;
-        // Its clauses say that the blocks ascend, and that each entity is hosted in them.
+        // Its clauses say that the blocks ascend.
         let _blocks = self.store.blocks();
         let tag = Tags::of(&self.blocks, self.used).take();
         made.push(tag);
-        self.marks.push_reserved(MarkCopy {
-            tag,
-            parent: Some(self.at),
-            entities,
-            live: true,
-        });
+        let changes = mem::replace(&mut self.unsaved, Delta::empty(self.alloc));
+        self.tree.add(tag, self.at, changes);
         self.at = tag;
         self.used += 1;
         Ok(Ok(Reply::Made(made.finish())))
@@ -204,28 +203,47 @@ impl<K: Modeller> Contents<K> {
         m: Tag,
         steps: &mut Steps<L>,
     ) -> Result<Result<Reply, Refusal>, NoMemory>
-        ensures { Does K.modelling self.old.state (act.Goto m) result self.new.state }
+        ensures does { Does K.modelling self.old.state (act.Goto m) result self.new.state }
+        ensures cost { steps.new ≤ steps.old + 4 * work self.old.state m }
+        ensures refused { IfOk result (λ r. IfErr r (λ _. steps.new ≡ steps.old)) }
     {
-        match go(self.alloc, &mut self.store, &self.marks, m, steps)? {
-            Ok(lists) => {
-                self.at = m;
-                Ok(Ok(Reply::Went(lists)))
-            }
-            Err(refusal) => Ok(Err(refusal)),
+        if let Err(refusal) = check_live(&self.store, &self.tree, m) {
+            return Ok(Err(refusal));
         }
+        let lists = go(
+            self.alloc,
+            &mut self.store,
+            &self.tree,
+            &self.unsaved,
+            self.at,
+            m,
+            steps,
+        )?;
+        self.unsaved = Delta::empty(self.alloc);
+        self.at = m;
+        Ok(Ok(Reply::Went(lists)))
     }
 
     /// Deletes the mark m, whose children become its parent's, and so does the current place where
     /// it was m.
-    pub(crate) fn unmark(&mut self, m: Tag) -> Result<Reply, Refusal>
-        ensures { Does K.modelling self.old.state (act.Unmark m) (Ok result) self.new.state }
+    pub(crate) fn unmark<L: Ledger>(
+        &mut self,
+        m: Tag,
+        steps: &mut Steps<L>,
+    ) -> Result<Result<Reply, Refusal>, NoMemory>
+        ensures { Does K.modelling self.old.state (act.Unmark m) result self.new.state }
     {
-        let parent = parent_of(live_mark(&self.store, &self.marks, m)?)?;
-        delete_mark(self.alloc, &mut self.marks, m, parent);
+        let parent = match parent_of(&self.store, &self.tree, m) {
+            Ok(parent) => parent,
+            Err(refusal) => return Ok(Err(refusal)),
+        };
         if self.at == m {
+            self.unsaved = remove_current(self.alloc, &mut self.tree, m, &self.unsaved, steps)?;
             self.at = parent;
+            return Ok(Ok(Reply::Done));
         }
-        Ok(Reply::Done)
+        self.tree.remove(m, steps)?;
+        Ok(Ok(Reply::Done))
     }
 
     /// Lists the live marks, with the current one.
@@ -233,8 +251,10 @@ impl<K: Modeller> Contents<K> {
         ensures { IfOk result (λ r. r
             ≡ reply.Marks self.now.state.at (live_rows self.now.state.marks)) }
     {
-        let mut rows = MarkListBuilder::with_room(self.alloc, self.marks.len())?;
-        list_live(&self.marks, &mut rows);
+        // Its clauses say that each mark is the only one with its tag.
+        let _lives = self.tree.live(self.at);
+        let mut rows = MarkListBuilder::with_room(self.alloc, self.tree.live_len())?;
+        list_live(&self.tree, &mut rows);
         Ok(Reply::Marks {
             at: self.at,
             rows: rows.finish(),
@@ -245,24 +265,26 @@ impl<K: Modeller> Contents<K> {
     pub(crate) fn live_marks(&self) -> usize
         ensures { result ≡ length (live_rows self.now.state.marks) }
     {
-        count_live(&self.marks)
+        self.tree.live_len()
     }
 
     /// Compares what the mark m stands for with what its parent stands for.
     pub(crate) fn delta_of<L: Ledger>(
         &self,
         m: Tag,
-        _steps: &mut Steps<L>,
+        steps: &mut Steps<L>,
     ) -> Result<Result<Reply, Refusal>, NoMemory>
         ensures { Does K.modelling self.now.state (act.Delta m) result self.now.state }
     {
-        match with_parent(&self.store, &self.marks, m) {
-            Ok((parent, mark)) => {
-                let lists = difference(self.alloc, &parent.entities, &mark.entities)?;
-                Ok(Ok(Reply::Delta(lists)))
-            }
-            Err(refusal) => Ok(Err(refusal)),
+        let parent = match parent_of(&self.store, &self.tree, m) {
+            Ok(parent) => parent,
+            Err(refusal) => return Ok(Err(refusal)),
+        };
+        if let Err(refusal) = check_live(&self.store, &self.tree, parent) {
+            return Ok(Err(refusal));
         }
+        let lists = self.tree.delta(m).lists(self.alloc, steps)?;
+        Ok(Ok(Reply::Delta(lists)))
     }
 
     /// Takes the room for one block at least.
@@ -290,4 +312,31 @@ impl<K: Modeller> Contents<K> {
         // Its clauses say that the blocks ascend in their range, so they are few.
         let _blocks = self.store.blocks();
     }
+}
+
+/// Removes the mark m, which is not the initial one, and gives what is unsaved behind its parent,
+/// where so much is unsaved behind m. Without memory the tree is as it was.
+fn remove_current<L: Ledger>(
+    alloc: Global,
+    tree: &mut MarkTree,
+    m: Tag,
+    unsaved: &Delta,
+    steps: &mut Steps<L>,
+) -> Result<Delta, NoMemory>
+    requires lives { is_live tree.old.marks m ≡ true }
+    requires parent { IsSome (parent_in tree.old.marks m) }
+    requires starts { StartsAt (map_of tree.old.marks m) unsaved.now }
+    ensures whole { OnOk result ((p : Tag) → parent_in tree.old.marks m ≡ Some p
+        → whole_marks tree.new.marks ≡ map (after_deletion m p) (whole_marks tree.old.marks)) }
+    ensures net { IfOk result (λ d. (p : Tag) → parent_in tree.old.marks m ≡ Some p
+        → (n : EntityMap) → unsaved.now ≡ net_changes (map_of tree.old.marks m) n
+        → d ≡ net_changes (map_of tree.old.marks p) n) }
+    ensures kept { OnErr result (tree.new ≡ tree.old) }
+{
+    // Its clause says that the changes of the mark lead from its parent to it.
+    let _parent = tree.parent(m);
+    let delta = tree.delta(m);
+    let behind = Delta::compose(alloc, delta, unsaved, steps)?;
+    tree.remove(m, steps)?;
+    Ok(behind)
 }

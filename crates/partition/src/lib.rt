@@ -5,10 +5,7 @@
 pub use partition::Partition;
 
 mod contents;
-mod copies;
-mod difference;
 mod goes;
 mod marks;
 mod partition;
 mod perform;
-mod restore;

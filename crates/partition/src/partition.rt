@@ -1,4 +1,4 @@
-ghost use Rattle.std.specs.Prelude.{◌≡◌, ◌<◌, ◌≤◌, [], ◌∷◌, ◌++◌, None, Some, Err, IsSome, IsTrue, IfOk, OnOk, OnErr, length, nat_lt, vec_capacity, vec_len};
+ghost use Rattle.std.specs.Prelude.{◌≡◌, ◌+◌, ◌*◌, ◌<◌, ◌≤◌, [], ◌∷◌, ◌++◌, None, Some, Err, IsSome, IsTrue, IfOk, OnOk, OnErr, length, nat_lt, vec_capacity, vec_len};
 ghost use Rattle.std.specs.List.{list_all};
 ghost use Rattle.pk_base.specs.declared.refusal.Refusal.TheVariants as refusal;
 ghost use Rattle.pk_base.specs.declared.act.Act.TheVariants as act;
@@ -8,6 +8,7 @@ ghost use Rattle.pk_model.specs.Step.{live_rows, short};
 ghost use Rattle.pk_model.specs.Step.{blocks_short as blocks_missing};
 ghost use Rattle.pk_model.specs.Replay.{replay};
 ghost use Rattle.partition.specs.Partition.{Appends, Answers, Begins, Stays, answer_of, holder_of};
+ghost use Rattle.partition.specs.Work.{GoesWithin, StepsWithin, load, work};
 
 use crate::contents::Contents;
 use entity_store::{Modeller, Steps, Store};
@@ -184,24 +185,30 @@ impl<K: Modeller> Partition<K> {
     }
 
     /// Keeps the state as a new mark with the next tag, below the current mark, and makes it the
-    /// current one. It never refuses; without memory nothing changes.
+    /// current one. It never refuses; without memory nothing changes. It adds at most two steps for
+    /// each tag that a call changed since the current mark was made or gone to.
     pub fn mark<L: Ledger>(&mut self, steps: &mut Steps<L>) -> Result<Reply, Fault>
         requires held { IsSome self.old.state.holder }
         requires enough { 0 < spare_of self.old.state.blocks self.old.state.used }
-        ensures { Answers K.modelling self.old act.Mark result self.new }
+        ensures answers { Answers K.modelling self.old act.Mark result self.new }
+        ensures cost { steps.new
+            ≤ steps.old + 2 * load K.modelling self.old.number self.old.journal }
     {
         let thread = self.contents.holder().unwrap();
         self.journal.reserve(2)?;
-        let done = self.contents.mark(steps)?;
+        let done = self.contents.mark()?;
         end_act(&mut self.journal, thread, Act::Mark, done)
     }
 
     /// Brings the state back that the mark m stands for, and makes m the current mark. Refuses
     /// where m's block is not owned, else where no mark ever had m, else where m is not live; then
-    /// the journal has one entry more, and all else is as it was. Without memory nothing changes.
+    /// the journal has one entry more, and all else is as it was. Without memory nothing changes. It
+    /// adds at most four steps for each tag that differs on the way there, and none where it
+    /// refuses.
     pub fn goto<L: Ledger>(&mut self, m: Tag, steps: &mut Steps<L>) -> Result<Reply, Fault>
         requires { IsSome self.old.state.holder }
-        ensures { Answers K.modelling self.old (act.Goto m) result self.new }
+        ensures answers { Answers K.modelling self.old (act.Goto m) result self.new }
+        ensures cost { GoesWithin self.old.state m result steps.old steps.new }
     {
         let thread = self.contents.holder().unwrap();
         self.journal.reserve(2)?;
@@ -213,13 +220,13 @@ impl<K: Modeller> Partition<K> {
     /// parent is current. The entities stay as they are. Refuses where m's block is not owned, else
     /// where no mark ever had m, else where m is not live, else the initial mark; then the journal
     /// has one entry more, and all else is as it was. Without memory nothing changes.
-    pub fn unmark<L: Ledger>(&mut self, m: Tag, _steps: &mut Steps<L>) -> Result<Reply, Fault>
+    pub fn unmark<L: Ledger>(&mut self, m: Tag, steps: &mut Steps<L>) -> Result<Reply, Fault>
         requires { IsSome self.old.state.holder }
         ensures { Answers K.modelling self.old (act.Unmark m) result self.new }
     {
         let thread = self.contents.holder().unwrap();
         self.journal.reserve(2)?;
-        let done = self.contents.unmark(m);
+        let done = self.contents.unmark(m, steps)?;
         end_act(&mut self.journal, thread, Act::Unmark(m), done)
     }
 
@@ -247,11 +254,13 @@ impl<K: Modeller> Partition<K> {
         end_act(&mut self.journal, thread, Act::Delta(m), done)
     }
 
-    /// The call that the act names, under its condition.
+    /// The call that the act names, under its condition. A mark and a goto add as many steps at most
+    /// as those calls say.
     pub fn act<L: Ledger>(&mut self, act: Act, steps: &mut Steps<L>) -> Result<Reply, Fault>
         requires held { IsSome self.old.state.holder }
         requires enough { short K.modelling self.old.state act ≡ 0 }
-        ensures { Answers K.modelling self.old act result self.new }
+        ensures answers { Answers K.modelling self.old act result self.new }
+        ensures cost { StepsWithin K.modelling self.old act result steps.old steps.new }
     {
         match act {
             Act::Call(call) => self.call(call, steps),

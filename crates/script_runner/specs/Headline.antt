@@ -1,6 +1,6 @@
 -- What a run promises, in parts: what was read, the report, what was written, and the cause of each
 -- status. A source and a sink are seen by what they tell.
-use Rattle.std.specs.Prelude.{◌≡◌, ◌⊎◌, ◌↔◌, ℕ, ◌+◌, ◌≤◌, nat_lt, List, length, take, Option, None, IfSome, IsSome, MatchBool, MatchOption, MatchResult, IsOkAnd, Some, Result, Ok, Err, ⊤}
+use Rattle.std.specs.Prelude.{◌≡◌, ◌⊎◌, ◌↔◌, ℕ, ◌+◌, ◌≤◌, nat_lt, List, length, take, Option, None, IfSome, IsSome, MatchBool, MatchResult, IsOk, IsOkAnd, Result, Ok, Err, ⊤}
 use Rattle.pk_model.specs.Modelling.{Modelling}
 use Rattle.pk_model.specs.Apart.{Apart}
 use Rattle.pk_outside.specs.Outside.{Took, IsAtEnd, Grows, HasFailed}
@@ -8,12 +8,10 @@ use Rattle.pk_outside.specs.declared.transfer.TheConstants.{MOST_INPUT}
 use Rattle.script_text.specs.Form.{script_of}
 use Rattle.script_text.specs.LegalReport.{HasLegalJournals, LegalReport}
 use Rattle.script_text.specs.Text.{text_of}
-use Rattle.script_text.specs.declared.script.Cause.TheVariants.{NotBuilt}
 use Rattle.script_text.specs.declared.report.Report.{Report}
 use Rattle.script_text.specs.declared.reading.fault.ScriptNo.{ScriptNo}
 use Rattle.script_text.specs.declared.reading.fault.ScriptNo.TheVariants.{Bad, NoMemory as OutOfMemory}
 use Rattle.serial_run.specs.Serial.{serial}
-use Rattle.script_runner.specs.Built.{unbuilt_in}
 use Rattle.script_runner.specs.Statuses.{HasRun, IsFinished, IsJudged, status_of}
 use Rattle.script_runner.specs.declared.run.Status.{Status}
 use Rattle.script_runner.specs.declared.run.Status.TheVariants as status
@@ -33,31 +31,22 @@ IsReportOf K bytes r = IsOkAnd (script_of bytes) (λ script. LegalReport K scrip
 abbrev pub IsSerialReportOf : Modelling → List ℕ → Report → Type 0
 IsSerialReportOf K bytes r = IsOkAnd (script_of bytes) (λ script. r ≡ serial K script)
 
--- the bytes are a script that is carried out
-abbrev pub IsRunnable : List ℕ → Type 0
-IsRunnable bytes = IsOkAnd (script_of bytes) (λ script. unbuilt_in script ≡ None)
-
 -- How a run over these bytes ends, where no read fails and memory suffices: too long; no script,
--- from this line on and for this cause; a script with a line that is not carried out yet; or run.
+-- from this line on and for this cause; or run.
 abbrev pub EndsFor : List ℕ → Status → Type 0
 EndsFor bytes ending =
     MatchBool (nat_lt MOST_INPUT (length bytes)) (ending ≡ status.TooLong)
-    (MatchResult (script_of bytes)
-    (λ script. MatchOption (unbuilt_in script) (HasRun ending)
-    (λ line. ending ≡ status.BadScript line NotBuilt))
+    (MatchResult (script_of bytes) (λ script. HasRun ending)
     (λ bad. ending ≡ status.BadScript bad.line bad.cause))
 
--- the error names the line and the cause for which the bytes are not run, or memory ran out
+-- the error names the line and the cause for which the bytes are no script, or memory ran out
 abbrev pub IsRefusedFor : List ℕ → ScriptNo → Type 0
-IsRefusedFor bytes (Bad line cause) =
-    MatchResult (script_of bytes)
-    (λ script. (unbuilt_in script ≡ Some line) × (cause ≡ NotBuilt))
-    (λ bad. bad ≡ record { line = line; cause = cause })
+IsRefusedFor bytes (Bad line cause) = script_of bytes ≡ Err (record { line = line; cause = cause })
 IsRefusedFor bytes OutOfMemory = ⊤
 
--- what is made of the bytes: something where they are run, or why they are not
+-- what is made of the bytes: something where they are a script, or why they are none
 abbrev pub JudgesAs : {A : Type 0} → List ℕ → Result A ScriptNo → Type 0
-JudgesAs bytes (Ok made) = IsRunnable bytes
+JudgesAs bytes (Ok made) = IsOk (script_of bytes)
 JudgesAs bytes (Err e) = IsRefusedFor bytes e
 
 -- ---- the parts
@@ -119,5 +108,5 @@ pub record HasCause (readable : Type 0) (bytes : Option (List ℕ)) (reads reads
   pub no_write_fault : ¬ (ending ≡ status.WriteFault) → writes' ≡ writes
   -- where the words and the input are good and nothing fails, the report is written, unless memory
   -- runs out
-  pub complete : readable → IfSome bytes (λ given. length given ≤ MOST_INPUT → IsRunnable given
+  pub complete : readable → IfSome bytes (λ given. length given ≤ MOST_INPUT → IsOk (script_of given)
       → ¬ (HasFailed reads reads') → ¬ (HasFailed writes writes') → IsFinished ending)

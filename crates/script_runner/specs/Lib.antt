@@ -1,5 +1,4 @@
 -- In reading order.
 pub mod Statuses
-pub mod Built
 pub mod Headline
 pub mod Line

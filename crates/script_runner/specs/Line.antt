@@ -20,7 +20,6 @@ name_of cause.WordCount = codes "WordCount"
 name_of cause.BadNumber = codes "BadNumber"
 name_of cause.BadName = codes "BadName"
 name_of cause.BadSession = codes "BadSession"
-name_of cause.NotBuilt = codes "NotBuilt"
 
 -- the text of the line that says why there is no whole report, without its line break
 abbrev pub text_of_line : Status → Option (List ℕ)

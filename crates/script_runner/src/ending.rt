@@ -65,6 +65,5 @@ pub fn name_of(cause: Cause) -> &'static str
         Cause::BadNumber => "BadNumber",
         Cause::BadName => "BadName",
         Cause::BadSession => "BadSession",
-        Cause::NotBuilt => "NotBuilt",
     }
 }

@@ -5,6 +5,5 @@
 pub use ending::{Line, line_of, name_of};
 pub use run::{Outcome, Status, run_serial};
 
-mod built;
 mod ending;
 mod run;

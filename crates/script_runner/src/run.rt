@@ -8,7 +8,6 @@ ghost use Rattle.session_words.specs.Words.{AreReadable};
 ghost use Rattle.script_runner.specs.Statuses.{is_refused, number_of_status, status_of, status_of_no, status_of_words};
 ghost use Rattle.script_runner.specs.Headline.{HasCause, IsLawful, IsReported, IsReportOf, IsSerial, IsSerialReportOf, JudgesAs, WasRead, WasWritten};
 
-use crate::built::unbuilt_in;
 use modeller::Euler;
 use pk_outside::{Failed, ReadNo, Sink, Source, read_all, write_all};
 use script_text::{Cause, LineSaid, Report, SaidList, ScriptNo, Text, read_script, report_text};
@@ -25,8 +24,7 @@ pub enum Status {
     SomeRefused,
     /// The words are not those of this program.
     BadWords,
-    /// The input is no script: its first line that offends, and why. Or it is one, and this is its
-    /// first line that is not carried out yet, with the cause `NotBuilt`.
+    /// The input is no script: its first line that offends, and why.
     BadScript { line: u32, cause: Cause },
     /// A read failed.
     ReadFault,
@@ -68,9 +66,8 @@ pub struct Outcome {
 /// program name in it; whether `--serial` is among them makes no difference.
 ///
 /// The words are read first, then the input is read to its end, then it is run, and nothing is
-/// written before the whole text stands in memory. A script with a line that asks for a call which
-/// is not done yet ends it as one that is none does. The first read or write that fails ends it. It
-/// waits for nobody, and returns where the source and the sink do.
+/// written before the whole text is in memory. The first read or write that fails ends it. It waits
+/// for nobody, and returns where the source and the sink do.
 pub fn run_serial<S: Source, K: Sink>(
     alloc: Global,
     words: &[String],
@@ -131,8 +128,8 @@ fn ended_by(no: ReadNo) -> Status
     }
 }
 
-/// The report of the script that the bytes are, and its text. Where they are none, or a line of it
-/// is not carried out yet, that line is told.
+/// The report of the script that the bytes are, and its text. Where they are none, the error has
+/// the first line that offends.
 fn report_of(alloc: Global, bytes: &[u8]) -> Result<(Report, Text), ScriptNo>
     ensures lawful { IfOk result (λ r. IsLawful euler r.0) }
     ensures legal { IfOk result (λ r. IsReportOf euler bytes.now r.0) }
@@ -141,12 +138,6 @@ fn report_of(alloc: Global, bytes: &[u8]) -> Result<(Report, Text), ScriptNo>
     ensures judged { JudgesAs bytes.now result }
 {
     let script = read_script(alloc, bytes)?;
-    if let Some(line) = unbuilt_in(&script) {
-        return Err(ScriptNo::Bad {
-            line,
-            cause: Cause::NotBuilt,
-        });
-    }
     let report = run_by_turns(alloc, &script, Euler)?;
     let text = report_text(alloc, &report)?;
     Ok((report, text))

@@ -1,8 +1,7 @@
 use pk_base::{Act, Items, Name, Tag};
 use thiserror::Error;
 
-/// Why a line is no line of a script, or is not carried out. Of the first twelve, those that apply
-/// to a line are tried in this order.
+/// Why a line is no line of a script. Those that apply to a line are tried in this order.
 #[derive(Clone, Copy, Debug, PartialEq, Eq, Error)]
 pub enum Cause {
     /// The line's number is above 65,536.
@@ -42,9 +41,6 @@ pub enum Cause {
     /// The header's numbers are outside their ranges.
     #[error("BadSession")]
     BadSession,
-    /// The line is good, and is not carried out yet.
-    #[error("NotBuilt")]
-    NotBuilt,
 }
 
 /// A script: partitions 1 to `n`, tag blocks 1 to `last`, the schedule's turns, and the lines of

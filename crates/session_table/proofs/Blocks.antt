@@ -79,3 +79,7 @@ below_all next (x ∷ xs) none = (
 -- all blocks of a partition are below the next one
 pub all_below : (f : ℕ → List ℕ) (bounds : Bounds) (p next : ℕ) → 1 ≤ p → p ≤ bounds.partitions → DrawnOnce f bounds next → AllByRecursion (λ b. b < next) (f p)
 all_below f bounds p next one most d = below_all next (f p) (λ b le. let h = d.not_next b le in let k = no_more f b p bounds.partitions one most in omega arith)
+
+-- the next block stands in the list of no partition
+pub nowhere_yet : (f : ℕ → List ℕ) (bounds : Bounds) (next : ℕ) → DrawnOnce f bounds next → (p : ℕ) → 1 ≤ p → p ≤ bounds.partitions → times next (f p) ≡ 0
+nowhere_yet f bounds next d p one most = let h = d.not_next next (omega arith) in let k = no_more f next p bounds.partitions one most in omega arith

@@ -18,12 +18,12 @@ use Rattle.session_table.specs.Named.{Named}
 use Rattle.session_table.specs.Seats.{seen_of, mine_of, note_of}
 use Rattle.session_table.specs.Steps.{may_draw, passed, drew}
 use Rattle.session_table.specs.Rule.{IsSeat, Stand, Lies, Stands, IsOut, note_for, total, one_if_seat, one_if_pending, DrawnOnce, KeepsPast, Rule}
-use Rattle.session_table.specs.Tells.{Seated, Passes, looks, draws}
+use Rattle.session_table.specs.Tells.{Seated, Passes, IsNextBlock, looks, draws}
 use Rattle.session_table.proofs.Journals.{starts_itself}
 use Rattle.session_table.proofs.Seating.{total-set}
 use Rattle.session_table.proofs.Keeps.{IsSame, steps}
 use Rattle.session_table.proofs.Book.{put, put_here, put_else, put_each, moves_none, moves_put, noted_stands, note_itself, note_else, lies_same}
-use Rattle.session_table.proofs.Blocks.{drawn_more, drawn_past, all_below}
+use Rattle.session_table.proofs.Blocks.{drawn_more, drawn_past, all_below, nowhere_yet}
 use Rattle.session_table.proofs.Claiming.{notes_line, seen_line, stays}
 
 pending_seats : (a b : Bool) → cond a 0 (cond b 1 0) ≤ cond a 0 1
@@ -156,6 +156,17 @@ module _ {X : Type 0} (named : X → Named) (bounds : Bounds) where
       (omega arith)
       (λ m at. let k = r.past id v seat m at in (k.0, omega (arith, k.1)))
 
+  -- word 0 is the next block
+  is_next : (s : State (Option X) View) (r : Rule named bounds s) (id : ℕ) (v : View) → IsSeat s.views id v → IsNextBlock v (slice_index s.words 0)
+  is_next s r id v seat =
+      let n : ℕ = slice_index s.words 0 in let same : v.bounds ≡ bounds = r.session id v seat in record {
+        blocks = λ p. (r.book p).blocks;
+        noted = λ p note has. ap (λ (k : Note). k.blocks)
+            (noted_stands (r.book p).holder (record { journal = (r.book p).journal; blocks = (r.book p).blocks }) note v.number (sym (r.notes id v seat p) ∙ has)).1;
+        drawn = subst (λ (b : Bounds). DrawnOnce (λ p. (r.book p).blocks) b n) (sym same) r.drawn;
+        nowhere = λ p one most. nowhere_yet (λ q. (r.book q).blocks) bounds n r.drawn p one (subst (λ (b : Bounds). p ≤ b.partitions) same most);
+      }
+
   pub draws_allowed : (slots id : ℕ) (v : View) (c : List (ℕ × Option X)) (p : ℕ) (note : Note) (said : maybe.Option (Option X)) → v.spent ≡ false → v.pending ≡ true → 1 ≤ p → p ≤ bounds.partitions → note_of v p ≡ Some note
       → Allows (Rule named bounds) slots id (v, (p, None) ∷ c) 0 (λ n. (n + 1) % 2 ^ 64) (draws (step slots 0 1 0 said) (v, (p, None) ∷ c))
   draws_allowed slots id v c p note said live some one most has s r wide at small =
@@ -179,6 +190,7 @@ module _ {X : Type 0} (named : X → Named) (bounds : Bounds) where
               fresh = let b = r.begun in omega arith;
               within = le;
               highest = subst (λ (k : Note). AllByRecursion (λ b. b < n) k.blocks) found.1 (all_below (λ q. (r.book q).blocks) bounds p n one most r.drawn);
+              next = is_next s r id v seat;
               view = refl;
               slots = refl;
             }),

@@ -11,7 +11,7 @@ use Rattle.session_table.specs.Seats.{seen_of, mine_of, note_of}
 use Rattle.session_table.specs.Slots.{front, in_slot, Fits, Carries}
 use Rattle.session_table.specs.Turns.{IsTurned, IsInFront}
 use Rattle.session_table.specs.Steps.{noted, looked_at, let_go, passed, drew}
-use Rattle.session_table.specs.Tells.{Seated, note_from, Wins, Loses, Frees, Passes, Draws}
+use Rattle.session_table.specs.Tells.{Seated, note_from, Wins, Loses, Frees, Passes, IsNextBlock, Draws}
 use Rattle.session_table.specs.Faces.{Face}
 use Rattle.session_table.specs.Calls.{with_slot, slot_here, HasWon, HasLost, LetsGo, HasPassed, HasDrawn, IsNotedBy}
 use Rattle.session_table.specs.Seats.{line_here, line_there}
@@ -183,6 +183,7 @@ module _ {X : Type 0} (named : X → Named) where
           fresh = subst (λ (v : View). v.bounds.partitions < block) turns.view told.fresh;
           within = subst (λ (v : View). block ≤ v.bounds.last) turns.view told.within;
           highest = told.highest;
+          next = subst (λ (v : View). IsNextBlock v block) turns.view told.next;
           seat = ap (face_of named) is ∙ ap (λ (m : Seated X). draws_it (face_of named m)) (sym there) ∙ ap draws_it both.1;
         },
       )

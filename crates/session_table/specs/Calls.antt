@@ -15,6 +15,7 @@ use Rattle.session_table.specs.Named.{Named}
 use Rattle.session_table.specs.Seats.{seen_of, mine_of, note_of}
 use Rattle.session_table.specs.Steps.{noted, looked_at, let_go, may_draw, passed, drew, made_one, newcomer, joined_by}
 use Rattle.session_table.specs.Slots.{IsNoted}
+use Rattle.session_table.specs.Tells.{IsNextBlock}
 use Rattle.session_table.specs.Faces.{Face}
 
 -- the slots, where slot p has this
@@ -99,13 +100,14 @@ Looks old Free new = new ≡ record old { view = may_draw old.view }
 Looks old (Past next) new = HasPassed old next new
 
 -- The block was drawn for p. It is none of those that the partitions begin with, at most the last,
--- and above each block that p has.
+-- above each block that p has, and stood in no partition.
 pub record HasDrawn (old : Face) (p block : ℕ) (new : Face) : Type 0 where
   pub note : Note
   pub noted : note_of old.view p ≡ Some note
   pub fresh : old.view.bounds.partitions < block
   pub within : block ≤ old.view.bounds.last
   pub highest : AllByRecursion (λ b. b < block) note.blocks
+  pub next : IsNextBlock old.view block
   pub seat : new ≡ record old { view = drew old.view p note block }
 
 abbrev pub Draws : Face → ℕ → Drawn → Face → Type 0

@@ -5,6 +5,7 @@ use Rattle.session_table.specs.declared.view.View.{View}
 use Rattle.session_table.specs.declared.seat.Seat.{Seat}
 use Rattle.session_table.specs.declared.table.SessionTable.{SessionTable}
 use Rattle.session_table.specs.Named.{Named}
+use Rattle.session_table.specs.Names.{SessionName}
 use Rattle.session_table.specs.Seats.{root}
 use Rattle.session_table.specs.Slots.{in_slot, Carries}
 
@@ -35,6 +36,14 @@ pub record IsSameSeat {X : Type 0} (old new : Seat X) : Type 0 where
 
 abbrev pub bounds_of : {X : Type 0} → SessionTable X → Bounds
 bounds_of table = table.bounds
+
+-- the name of the session
+abbrev pub name_of : {X : Type 0} → SessionTable X → SessionName
+name_of table = record { table = table.table.shared.table_id; bounds = table.bounds }
+
+-- the name of the session that the seat is of
+abbrev pub session_of : {X : Type 0} → Seat X → SessionName
+session_of seat = record { table = seat.place.table_id; bounds = seat.place.me.0.bounds }
 
 -- the seat is of this session, and holds the slots on which it has notes
 pub record IsSeatOf {X : Type 0} (named : X → Named) (table : SessionTable X)

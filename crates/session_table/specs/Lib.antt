@@ -1,6 +1,7 @@
 -- In reading order.
 pub mod Entries
 pub mod Named
+pub mod Names
 pub mod Seats
 pub mod Steps
 pub mod Rule

@@ -9,6 +9,7 @@ use Rattle.session_table.specs.declared.view.View.{View}
 use Rattle.session_table.specs.Entries.{only, StartsWith}
 use Rattle.session_table.specs.Named.{Named}
 use Rattle.session_table.specs.Seats.{line_in, seen_of, mine_of, note_of, joined_as}
+use Rattle.session_table.specs.Rule.{times, DrawnOnce}
 use Rattle.session_table.specs.Slots.{front}
 use Rattle.session_table.specs.Steps.{noted, looked_at, let_go, may_draw, passed, drew}
 
@@ -69,14 +70,23 @@ abbrev pub looks : {X : Type 0} → Step (Option X) → Seated X → ℕ → Sea
 looks st old found new =
     (found ≤ old.0.bounds.last → Looks old new) × (old.0.bounds.last < found → Passes found old new)
 
--- the block is drawn for the partition p: it is above all that a session begins with, and above all
--- that p has
+-- How the blocks stood when the next one was drawn: the seat's notes are of these lists, each block
+-- below the next one stood in one of them, once, and the next one stood in none.
+pub record IsNextBlock (v : View) (block : ℕ) : Type 0 where
+  pub blocks : ℕ → List ℕ
+  pub noted : (p : ℕ) (note : Note) → note_of v p ≡ Some note → blocks p ≡ note.blocks
+  pub drawn : DrawnOnce blocks v.bounds block
+  pub nowhere : (p : ℕ) → 1 ≤ p → p ≤ v.bounds.partitions → times block (blocks p) ≡ 0
+
+-- the block is drawn for the partition p: it is above all that a session begins with, above all
+-- that p has, and stood in no partition
 pub record Draws {X : Type 0} (p block : ℕ) (old new : Seated X) : Type 0 where
   pub note : Note
   pub noted : note_of old.0 p ≡ Some note
   pub fresh : old.0.bounds.partitions < block
   pub within : block ≤ old.0.bounds.last
   pub highest : AllByRecursion (λ b. b < block) note.blocks
+  pub next : IsNextBlock old.0 block
   pub view : new.0 ≡ drew old.0 p note block
   pub slots : new.1 ≡ old.1
 

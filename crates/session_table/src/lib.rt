@@ -12,6 +12,7 @@ mod plays;
 mod rule;
 mod seat;
 mod seats;
+mod session_name;
 mod table;
 mod view;
 
@@ -19,5 +20,6 @@ pub use claims::Claim;
 pub use draws::{Drawn, Next};
 pub use naming::Naming;
 pub use seat::Seat;
+pub use session_name::OfSession;
 pub use table::SessionTable;
 pub use view::{Bounds, Joined, Line, Look, Note, View};

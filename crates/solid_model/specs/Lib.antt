@@ -3,6 +3,7 @@ pub mod Items
 pub mod Rings
 pub mod Owners
 pub mod Deaths
+pub mod SameButNames
 pub mod Rows
 pub mod Places
 pub mod Ranges

@@ -31,7 +31,7 @@ use Rattle.solid_places.proofs.Read.{item-of}
 use Rattle.solid_sound.proofs.rows.KeptMotions.{move-keeps, outside-none, turn-keeps}
 use Rattle.solid_sound.proofs.rows.RowKeeps.{IsWell, Keeps, well-shape}
 use Rattle.solid_sound.proofs.shapes.Found.{none_or_some}
-use Rattle.solid_motion.specs.Points.{AreComponents}
+use Rattle.solid_places.specs.Points.{AreComponents}
 use Rattle.solid_motion.specs.Vertices.{AreWithin, MovesVertices, entity_moved}
 
 -- ---- rows that do not refuse

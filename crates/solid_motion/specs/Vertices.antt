@@ -14,7 +14,7 @@ use Rattle.entity_store.specs.Room.{PutsAmong}
 use Rattle.entity_store.specs.Store.{StoreView}
 use Rattle.solid_motion.specs.declared.vertices.Wanted.{Wanted}
 use Rattle.solid_motion.specs.declared.vertices.Wanted.TheVariants.{From, Outside}
-use Rattle.solid_motion.specs.Points.{AreComponents, AreCoordinates}
+use Rattle.solid_places.specs.Points.{AreComponents, AreCoordinates}
 
 -- a coordinate of the point is out of range
 abbrev pub is_outside : Point → Bool

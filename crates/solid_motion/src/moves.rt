@@ -4,11 +4,11 @@ ghost use Rattle.pk_base.specs.declared.call.Call.TheVariants.{Move};
 ghost use Rattle.solid_model.specs.Sound.{IsSound};
 ghost use Rattle.solid_calls.specs.Pairs.{HasDone, MayDo, NeedsAsRow};
 
-use crate::points::{Motion, too_far};
+use crate::points::Motion;
 use crate::vertices::{count_vertices, move_vertices, sum_outside};
 use entity_store::{Need, Recorder, Steps, Store};
 use pk_base::{Refusal, Tag, Triple};
-use solid_places::body_at;
+use solid_places::{body_at, too_far};
 use std::sync::ledger::Ledger;
 
 /// What `move_do` needs, or why it is refused. It takes no memory.

@@ -11,12 +11,14 @@ ghost use Rattle.solid_model.specs.Ranges.{coordinates_of, is_coordinate};
 ghost use Rattle.solid_model.specs.Room.{vertices_in_body};
 ghost use Rattle.solid_model.specs.Shapes.{shape_of};
 ghost use Rattle.solid_model.specs.Sound.{IsSound};
-ghost use Rattle.solid_motion.specs.Points.{AreComponents, AreCoordinates, IsMotion, point_by};
+ghost use Rattle.solid_places.specs.Points.{AreComponents, AreCoordinates};
+ghost use Rattle.solid_motion.specs.Points.{IsMotion, point_by};
 ghost use Rattle.solid_motion.specs.Vertices.{AreWithin, IsLeastWanted, MayBeWanted, MovesRun, MovesVertices, is_vertex_of, is_wanted as the_test, lesser as the_lesser, vertices_on};
 
-use crate::points::{Motion, moved, outside, point_after};
+use crate::points::{Motion, point_after};
 use entity_store::{Recorder, Steps, Store};
 use pk_base::{Class, Entity, Point, Tag, Triple};
+use solid_places::{moved, outside};
 use std::sync::ledger::Ledger;
 
 /// How many numbers a tag may have.

@@ -1,3 +1,4 @@
 -- In reading order.
 pub mod Live
 pub mod Placed
+pub mod Points

@@ -1,7 +1,7 @@
 //! What an operand of a call on solids is, and what stands around it, read in a store: a body, a
 //! face, a loop, a fin, or an end for a new edge (Mäntylä, An Introduction to Solid Modeling,
 //! 1988). Each call refuses a tag that is not live or not of the class that is asked for, and takes
-//! no memory.
+//! no memory. And the numbers of points: whether they are in range, and their sums with a vector.
 #![tactic(auto)]
 
 pub use ends::{End, end_at};
@@ -9,6 +9,7 @@ pub use faces::{PlacedFace, body_at, face_at};
 pub use fins::{PlacedFin, fin_at};
 pub use loops::{PlacedLoop, loop_at};
 pub use parts::{has_more_parts, has_rings};
+pub use points::{is_outside, moved, outside, point_of, too_far};
 
 mod ends;
 mod faces;
@@ -16,3 +17,4 @@ mod fins;
 mod live;
 mod loops;
 mod parts;
+mod points;

@@ -20,7 +20,6 @@ fn a_bad_script_has_its_message(rt: HostRuntime) -> Result<(), Fail> {
         (Cause::BadNumber, "BadNumber"),
         (Cause::BadName, "BadName"),
         (Cause::BadSession, "BadSession"),
-        (Cause::NotBuilt, "NotBuilt"),
     ] {
         let no = ScriptNo::Bad { line: 3, cause };
         let message = format!(in alloc; "line 3: {name}")?;

@@ -1,10 +1,15 @@
-use Rattle.std.proofs.Common.{◌≡◌, [], of_z, rules, subst, sym, to_z, w64}
-use Rattle.pk_base.specs.declared.call.Call.TheVariants.{SetAttr, Turn}
-use Rattle.solid_calls.specs.Pairs.{HasDone, MayDo}
+use Rattle.std.proofs.lemmas.Int.{to_z-of_z}
+use Rattle.std.specs.Prelude.{ℤ}
+use Rattle.std.proofs.Common.{◌≡◌, List, [], of_z, rules, subst, sym, to_z, w64}
+use Rattle.pk_base.specs.declared.call.Call.TheVariants.{Lamina, Prism, SetAttr, Turn}
+use Rattle.solid_calls.specs.Pairs.{HasDone, HasTags, MayDo, Takes, row_on}
+use Rattle.solid_model.specs.Rows.{cost_of}
+use Rattle.pk_base.specs.declared.entity.Pair.{Pair}
 use Rattle.entity_store.specs.NextTags.{left}
 use Rattle.solid_model.specs.Shapes.{shape_of}
 use Rattle.modeller.proofs.Performing.{done-as, done-changing, may-as, may-without, tags-as, takes-as, takes-changing}
 use Rattle.solid_calls.proofs.RowKinds.{drop-changes, kef-changes, kev-changes, kfmrh-changes, kvfs-changes, ringmove-changes}
+use Rattle.euler_kill.proofs.DeleteReached.{delete-changes}
 use Rattle.solid_motion.proofs.RowKinds.{move-changes, turn-changes}
 use Rattle.modeller.proofs.euler.carry_out.Goals as goal
 
@@ -125,6 +130,74 @@ returns-in-RingMove-clause-done g c = done-changing c.args.call.now _ c.in-RingM
 pub returns-in-RingMove-clause-takes : goal.returns-in-RingMove-clause-takes
 returns-in-RingMove-clause-takes g c = takes-changing c.args.call.now _ c.in-RingMove.is c.args.rec.now.store.now.state.map c.args.tags.now c.args.out.now (ringmove-changes (shape_of c.args.rec.now.store.now.state.map) c.in-RingMove.ring c.in-RingMove.to)
 
+pub lamina_do-requires-clause-may : goal.lamina_do-requires-clause-may
+lamina_do-requires-clause-may g c =
+    subst (λ (v : List Pair). MayDo c.args.rec.now.store.now (Lamina (to_z w64 (of_z w64 c.in-Lamina.z)) v) (left c.args.tags.now)) (sym c.as_slice.ensures)
+    (subst (λ (v : ℤ). MayDo c.args.rec.now.store.now (Lamina v c.in-Lamina.corners) (left c.args.tags.now)) (sym (to_z-of_z w64 c.in-Lamina.z (search rules)))
+    (may-as c.args.call.now _ c.in-Lamina.is c.args.rec.now.store.now (left c.args.tags.now) c.requires.may))
+
+pub lamina_do-requires-clause-tags : goal.lamina_do-requires-clause-tags
+lamina_do-requires-clause-tags g c =
+    subst (λ (v : List Pair). HasTags c.args.rec.now.store.now (cost_of (row_on c.args.rec.now.store.now.state.map (Lamina (to_z w64 (of_z w64 c.in-Lamina.z)) v))) c.args.tags.now c.args.out.now) (sym c.as_slice.ensures)
+    (subst (λ (v : ℤ). HasTags c.args.rec.now.store.now (cost_of (row_on c.args.rec.now.store.now.state.map (Lamina v c.in-Lamina.corners))) c.args.tags.now c.args.out.now) (sym (to_z-of_z w64 c.in-Lamina.z (search rules)))
+    (tags-as c.args.call.now _ c.in-Lamina.is c.args.rec.now.store.now c.args.tags.now c.args.out.now c.requires.tags))
+
+pub returns-in-Lamina-clause-done : goal.returns-in-Lamina-clause-done
+returns-in-Lamina-clause-done g c = done-as c.args.call.now _ c.in-Lamina.is c.args.rec.now.store.now c.lamina_do.new.rec.store.now (left c.args.tags.now)
+    (subst (λ (v : List Pair). HasDone c.args.rec.now.store.now (Lamina c.in-Lamina.z v) (left c.args.tags.now) c.lamina_do.new.rec.store.now) c.as_slice.ensures
+    (subst (λ (v : ℤ). HasDone c.args.rec.now.store.now (Lamina v c.as_slice.result.now) (left c.args.tags.now) c.lamina_do.new.rec.store.now) (to_z-of_z w64 c.in-Lamina.z (search rules))
+    (c.lamina_do.ensures.done)))
+
+pub returns-in-Lamina-clause-takes : goal.returns-in-Lamina-clause-takes
+returns-in-Lamina-clause-takes g c = takes-as c.args.call.now _ c.in-Lamina.is c.args.rec.now.store.now.state.map c.args.tags.now c.lamina_do.new.tags c.args.out.now c.lamina_do.new.out
+    (subst (λ (v : List Pair). Takes (cost_of (row_on c.args.rec.now.store.now.state.map (Lamina c.in-Lamina.z v))) c.args.tags.now c.args.out.now c.lamina_do.new.tags c.lamina_do.new.out) c.as_slice.ensures
+    (subst (λ (v : ℤ). Takes (cost_of (row_on c.args.rec.now.store.now.state.map (Lamina v c.as_slice.result.now))) c.args.tags.now c.args.out.now c.lamina_do.new.tags c.lamina_do.new.out) (to_z-of_z w64 c.in-Lamina.z (search rules))
+    (c.lamina_do.ensures.takes)))
+
+pub block_do-requires-clause-may : goal.block_do-requires-clause-may
+block_do-requires-clause-may g c =
+    may-as c.args.call.now _ c.in-Block.is c.args.rec.now.store.now (left c.args.tags.now) c.requires.may
+
+pub block_do-requires-clause-tags : goal.block_do-requires-clause-tags
+block_do-requires-clause-tags g c =
+    tags-as c.args.call.now _ c.in-Block.is c.args.rec.now.store.now c.args.tags.now c.args.out.now c.requires.tags
+
+pub returns-in-Block-clause-done : goal.returns-in-Block-clause-done
+returns-in-Block-clause-done g c = done-as c.args.call.now _ c.in-Block.is c.args.rec.now.store.now c.block_do.new.rec.store.now (left c.args.tags.now)
+    (c.block_do.ensures.done)
+
+pub returns-in-Block-clause-takes : goal.returns-in-Block-clause-takes
+returns-in-Block-clause-takes g c = takes-as c.args.call.now _ c.in-Block.is c.args.rec.now.store.now.state.map c.args.tags.now c.block_do.new.tags c.args.out.now c.block_do.new.out
+    (c.block_do.ensures.takes)
+
+pub prism_do-requires-clause-may : goal.prism_do-requires-clause-may
+prism_do-requires-clause-may g c =
+    subst (λ (v : List Pair). MayDo c.args.rec.now.store.now (Prism (to_z w64 (of_z w64 c.in-Prism.z)) (to_z w64 (of_z w64 c.in-Prism.h)) v) (left c.args.tags.now)) (sym c.as_slice-in-Prism.ensures)
+    (subst (λ (v : ℤ). MayDo c.args.rec.now.store.now (Prism (to_z w64 (of_z w64 c.in-Prism.z)) v c.in-Prism.corners) (left c.args.tags.now)) (sym (to_z-of_z w64 c.in-Prism.h (search rules)))
+    (subst (λ (v : ℤ). MayDo c.args.rec.now.store.now (Prism v c.in-Prism.h c.in-Prism.corners) (left c.args.tags.now)) (sym (to_z-of_z w64 c.in-Prism.z (search rules)))
+    (may-as c.args.call.now _ c.in-Prism.is c.args.rec.now.store.now (left c.args.tags.now) c.requires.may)))
+
+pub prism_do-requires-clause-tags : goal.prism_do-requires-clause-tags
+prism_do-requires-clause-tags g c =
+    subst (λ (v : List Pair). HasTags c.args.rec.now.store.now (cost_of (row_on c.args.rec.now.store.now.state.map (Prism (to_z w64 (of_z w64 c.in-Prism.z)) (to_z w64 (of_z w64 c.in-Prism.h)) v))) c.args.tags.now c.args.out.now) (sym c.as_slice-in-Prism.ensures)
+    (subst (λ (v : ℤ). HasTags c.args.rec.now.store.now (cost_of (row_on c.args.rec.now.store.now.state.map (Prism (to_z w64 (of_z w64 c.in-Prism.z)) v c.in-Prism.corners))) c.args.tags.now c.args.out.now) (sym (to_z-of_z w64 c.in-Prism.h (search rules)))
+    (subst (λ (v : ℤ). HasTags c.args.rec.now.store.now (cost_of (row_on c.args.rec.now.store.now.state.map (Prism v c.in-Prism.h c.in-Prism.corners))) c.args.tags.now c.args.out.now) (sym (to_z-of_z w64 c.in-Prism.z (search rules)))
+    (tags-as c.args.call.now _ c.in-Prism.is c.args.rec.now.store.now c.args.tags.now c.args.out.now c.requires.tags)))
+
+pub returns-in-Prism-clause-done : goal.returns-in-Prism-clause-done
+returns-in-Prism-clause-done g c = done-as c.args.call.now _ c.in-Prism.is c.args.rec.now.store.now c.prism_do.new.rec.store.now (left c.args.tags.now)
+    (subst (λ (v : List Pair). HasDone c.args.rec.now.store.now (Prism c.in-Prism.z c.in-Prism.h v) (left c.args.tags.now) c.prism_do.new.rec.store.now) c.as_slice-in-Prism.ensures
+    (subst (λ (v : ℤ). HasDone c.args.rec.now.store.now (Prism c.in-Prism.z v c.as_slice-in-Prism.result.now) (left c.args.tags.now) c.prism_do.new.rec.store.now) (to_z-of_z w64 c.in-Prism.h (search rules))
+    (subst (λ (v : ℤ). HasDone c.args.rec.now.store.now (Prism v (to_z w64 (of_z w64 c.in-Prism.h)) c.as_slice-in-Prism.result.now) (left c.args.tags.now) c.prism_do.new.rec.store.now) (to_z-of_z w64 c.in-Prism.z (search rules))
+    (c.prism_do.ensures.done))))
+
+pub returns-in-Prism-clause-takes : goal.returns-in-Prism-clause-takes
+returns-in-Prism-clause-takes g c = takes-as c.args.call.now _ c.in-Prism.is c.args.rec.now.store.now.state.map c.args.tags.now c.prism_do.new.tags c.args.out.now c.prism_do.new.out
+    (subst (λ (v : List Pair). Takes (cost_of (row_on c.args.rec.now.store.now.state.map (Prism c.in-Prism.z c.in-Prism.h v))) c.args.tags.now c.args.out.now c.prism_do.new.tags c.prism_do.new.out) c.as_slice-in-Prism.ensures
+    (subst (λ (v : ℤ). Takes (cost_of (row_on c.args.rec.now.store.now.state.map (Prism c.in-Prism.z v c.as_slice-in-Prism.result.now))) c.args.tags.now c.args.out.now c.prism_do.new.tags c.prism_do.new.out) (to_z-of_z w64 c.in-Prism.h (search rules))
+    (subst (λ (v : ℤ). Takes (cost_of (row_on c.args.rec.now.store.now.state.map (Prism v (to_z w64 (of_z w64 c.in-Prism.h)) c.as_slice-in-Prism.result.now))) c.args.tags.now c.args.out.now c.prism_do.new.tags c.prism_do.new.out) (to_z-of_z w64 c.in-Prism.z (search rules))
+    (c.prism_do.ensures.takes))))
+
 pub move_do-requires : goal.move_do-requires
 move_do-requires g c = may-without c.args.call.now _ c.in-Move.is c.args.rec.now.store.now (left c.args.tags.now) c.requires.may
 
@@ -162,3 +235,24 @@ returns-in-DropAttr-clause-done g c = done-changing c.args.call.now _ c.in-DropA
 
 pub returns-in-DropAttr-clause-takes : goal.returns-in-DropAttr-clause-takes
 returns-in-DropAttr-clause-takes g c = takes-changing c.args.call.now _ c.in-DropAttr.is c.args.rec.now.store.now.state.map c.args.tags.now c.args.out.now (drop-changes (shape_of c.args.rec.now.store.now.state.map) c.in-DropAttr.owner c.in-DropAttr.name)
+
+pub sweep_do-requires-clause-may : goal.sweep_do-requires-clause-may
+sweep_do-requires-clause-may g c = may-as c.args.call.now _ c.in-Sweep.is c.args.rec.now.store.now (left c.args.tags.now) c.requires.may
+
+pub sweep_do-requires-clause-tags : goal.sweep_do-requires-clause-tags
+sweep_do-requires-clause-tags g c = tags-as c.args.call.now _ c.in-Sweep.is c.args.rec.now.store.now c.args.tags.now c.args.out.now c.requires.tags
+
+pub returns-in-Sweep-clause-done : goal.returns-in-Sweep-clause-done
+returns-in-Sweep-clause-done g c = done-as c.args.call.now _ c.in-Sweep.is c.args.rec.now.store.now c.sweep_do.new.rec.store.now (left c.args.tags.now) c.sweep_do.ensures.done
+
+pub returns-in-Sweep-clause-takes : goal.returns-in-Sweep-clause-takes
+returns-in-Sweep-clause-takes g c = takes-as c.args.call.now _ c.in-Sweep.is c.args.rec.now.store.now.state.map c.args.tags.now c.sweep_do.new.tags c.args.out.now c.sweep_do.new.out c.sweep_do.ensures.takes
+
+pub delete_do-requires : goal.delete_do-requires
+delete_do-requires g c = may-without c.args.call.now _ c.in-Delete.is c.args.rec.now.store.now (left c.args.tags.now) c.requires.may
+
+pub returns-in-Delete-clause-done : goal.returns-in-Delete-clause-done
+returns-in-Delete-clause-done g c = done-changing c.args.call.now _ c.in-Delete.is c.args.rec.now.store.now c.delete_do.new.rec.store.now (left c.args.tags.now) (delete-changes (shape_of c.args.rec.now.store.now.state.map) c.in-Delete.body) c.delete_do.ensures.done
+
+pub returns-in-Delete-clause-takes : goal.returns-in-Delete-clause-takes
+returns-in-Delete-clause-takes g c = takes-changing c.args.call.now _ c.in-Delete.is c.args.rec.now.store.now.state.map c.args.tags.now c.args.out.now (delete-changes (shape_of c.args.rec.now.store.now.state.map) c.in-Delete.body)

@@ -8,9 +8,12 @@ use Rattle.pk_model.specs.Step.{reach_of}
 use Rattle.pk_model.proofs.Steps.{reach_of-call_refused}
 use Rattle.pk_model.proofs.TagLists.{length-next_tags}
 use Rattle.entity_store.specs.Store.{Stored}
-use Rattle.partition.specs.Contents.{AreContents, ContentsView, state_of}
+use Rattle.pmark_tree.specs.Maps.{map_of}
+use Rattle.partition.specs.Contents.{ContentsView, state_of}
 use Rattle.partition.specs.Goes.{Made, Performs}
 use Rattle.partition.proofs.ActReach.{call_reached, state_stays}
+use Rattle.partition.proofs.Keeping.{called}
+use Rattle.partition.proofs.Unsaved.{net-ends}
 use Rattle.partition.proofs.contents.Contents.call.Goals as goal
 
 pub overflow_add-self : goal.overflow_add-self
@@ -19,7 +22,7 @@ overflow_add-self g c =
     let p = c.self.inside in
     let call = c.args.call.now in
     let performed = λ (r : Result (Reply × ℕ) Refusal). Performs K p.store.state p.used call (Ok r) c.perform.new.store.state in
-    let made : Made K p.store.state p.used call c.in-Ok.reply c.in-Ok.taken c.perform.new.store.state = subst performed c.in-Ok.is c.in_ok-reply.ensures in
+    let made : Made K p.store.state p.used call c.in-Ok.reply c.in-Ok.taken c.perform.new.store.state = subst performed c.in-Ok.is c.in_ok-reply.ensures.performs in
     let enough = subst (λ (s : PartitionState). K.cost s.now call ≤ length (next_tags s.blocks s.used)) (sym (ap (λ (v : ContentsView). v.state) c.self.view_is)) c.requires.enough in
     omega (arith, enough, length-next_tags p.store.state.blocks p.used, made.takes, c.self.invariant.within, c.self.invariant.few)
 
@@ -29,11 +32,16 @@ invariant_of-self-in-Ok g c =
     let p = c.self.inside in
     let call = c.args.call.now in
     let performed = λ (r : Result (Reply × ℕ) Refusal). Performs K p.store.state p.used call (Ok r) c.perform.new.store.state in
-    let made : Made K p.store.state p.used call c.in-Ok.reply c.in-Ok.taken c.perform.new.store.state = subst performed c.in-Ok.is c.in_ok-reply.ensures in
+    let made : Made K p.store.state p.used call c.in-Ok.reply c.in-Ok.taken c.perform.new.store.state = subst performed c.in-Ok.is c.in_ok-reply.ensures.performs in
     let enough = subst (λ (s : PartitionState). K.cost s.now call ≤ length (next_tags s.blocks s.used)) (sym (ap (λ (v : ContentsView). v.state) c.self.view_is)) c.requires.enough in
     let within : p.used + c.in-Ok.taken ≤ 64 * length p.store.state.blocks = omega (arith, enough, length-next_tags p.store.state.blocks p.used, made.takes, c.self.invariant.within) in
-    subst (λ bs. AreContents bs p.blocks.items p.marks.items (p.used + c.in-Ok.taken)) (sym (ap (λ (s : Stored). s.blocks) made.store))
-    (record { listed = c.self.invariant.listed; copies = c.self.invariant.copies; within = within; few = c.self.invariant.few })
+    called p.store.state.blocks p.blocks.items p.store.state.map p.tree.marks p.unsaved p.at p.used c.self.invariant c.perform.new.store.state.blocks c.perform.new.store.state.map c.perform.new.unsaved c.in-Ok.taken
+    (ap (λ (s : Stored). s.blocks) made.store) (c.in_ok-reply.ensures.unsaved (map_of p.tree.marks p.at) c.self.invariant.net) within
+
+pub perform-requires-clause-leads : goal.perform-requires-clause-leads
+perform-requires-clause-leads g c κs within =
+    let p = c.self.inside in
+    net-ends (map_of p.tree.marks p.at) p.store.state.map p.unsaved c.self.invariant.net
 
 pub returns-in-Ok : goal.returns-in-Ok
 returns-in-Ok g c =
@@ -41,9 +49,9 @@ returns-in-Ok g c =
     let p = c.self.inside in
     let call = c.args.call.now in
     let performed = λ (r : Result (Reply × ℕ) Refusal). Performs K p.store.state p.used call (Ok r) c.perform.new.store.state in
-    let made : Made K p.store.state p.used call c.in-Ok.reply c.in-Ok.taken c.perform.new.store.state = subst performed c.in-Ok.is c.in_ok-reply.ensures in
-    subst (λ (s : PartitionState). reach_of K s (act.Call call) ≡ Ok (record { state = state_of c.perform.new.store p.marks.items p.at (p.used + c.in-Ok.taken) p.holder; reply = c.in-Ok.reply })) (ap (λ (v : ContentsView). v.state) c.self.view_is)
-    (call_reached K p.store c.perform.new.store p.marks.items p.at p.used p.holder call c.in-Ok.reply c.in-Ok.taken made)
+    let made : Made K p.store.state p.used call c.in-Ok.reply c.in-Ok.taken c.perform.new.store.state = subst performed c.in-Ok.is c.in_ok-reply.ensures.performs in
+    subst (λ (s : PartitionState). reach_of K s (act.Call call) ≡ Ok (record { state = state_of c.perform.new.store p.tree.marks p.at (p.used + c.in-Ok.taken) p.holder; reply = c.in-Ok.reply })) (ap (λ (v : ContentsView). v.state) c.self.view_is)
+    (call_reached K p.store c.perform.new.store p.tree.marks p.at p.used p.holder call c.in-Ok.reply c.in-Ok.taken made)
 
 pub returns-in-Err : goal.returns-in-Err
 returns-in-Err g c =
@@ -52,9 +60,9 @@ returns-in-Err g c =
     let new = c.perform.new.store in
     let call = c.args.call.now in
     let e = c.in-Err.refusal in
-    let old = state_of p.store p.marks.items p.at p.used p.holder in
+    let old = state_of p.store p.tree.marks p.at p.used p.holder in
     let performed = λ (r : Result (Reply × ℕ) Refusal). Performs K p.store.state p.used call (Ok r) new.state in
-    let refused = subst performed c.in-Err.is c.in_ok-reply.ensures in
-    let stays = state_stays K p.store new p.marks.items p.at p.used p.holder refused.1 in
-    subst (λ (s : PartitionState). (reach_of K s (act.Call call) ≡ Err e) × (state_of new p.marks.items p.at p.used p.holder ≡ s)) (ap (λ (v : ContentsView). v.state) c.self.view_is)
+    let refused = subst performed c.in-Err.is c.in_ok-reply.ensures.performs in
+    let stays = state_stays K p.store new p.tree.marks p.at p.used p.holder refused.1 in
+    subst (λ (s : PartitionState). (reach_of K s (act.Call call) ≡ Err e) × (state_of new p.tree.marks p.at p.used p.holder ≡ s)) (ap (λ (v : ContentsView). v.state) c.self.view_is)
     (reach_of-call_refused K old call e refused.0, stays)

@@ -1,10 +1,12 @@
-use Rattle.std.proofs.Common.{vec_capacity, vec_len, ◌-◌, ◌≡◌, Some, [], ◌∷◌, ◌++◌, ap, refl, sym, subst, ◌∙◌, arith}
+use Rattle.std.proofs.Common.{vec_capacity, vec_len, ◌-◌, ◌≡◌, ◌+◌, ◌*◌, ◌≤◌, Some, [], ◌∷◌, ◌++◌, ap, refl, sym, subst, ◌∙◌, arith}
 use Rattle.pk_base.specs.declared.act.Act.TheVariants as act
 use Rattle.pk_base.specs.declared.act.Entry.TheVariants.{Did}
 use Rattle.pk_model.specs.Tags.{spare_of}
 use Rattle.pk_model.specs.Step.{short}
 use Rattle.pk_model.proofs.Steps.{not_short}
 use Rattle.partition.specs.Partition.{Answers, PartitionView}
+use Rattle.partition.specs.Work.{GoesWithin, work}
+use Rattle.partition.proofs.WorkSteps.{goes_answered}
 use Rattle.partition.proofs.Valid.{did_answers, did_leads, valid_after, view}
 use Rattle.partition.proofs.partition.Partition.goto.Goals as goal
 
@@ -19,11 +21,11 @@ invariant_of-self-2 g c =
     let enough : short K s a ≡ 0 = not_short 0 (spare_of s.blocks s.used) (omega arith) in
     let grown = c.end_act.ensures.entry ∙ ap (λ j. j ++ Did t a ∷ []) c.in_ok-reserve.ensures.items in
     valid_after K p.number s p.journal.items _ c.self.invariant (Did t a) (Some c.in_ok-done.done) c.goto.new.self.state _ _
-    (did_leads K s c.goto.new.self.state t a c.in_ok-done.done holds enough c.in_ok-done.ensures) grown
+    (did_leads K s c.goto.new.self.state t a c.in_ok-done.done holds enough c.in_ok-done.ensures.does) grown
     (λ h. omega (arith, c.in_ok-reserve.ensures.ok, c.in_ok-reserve.ensures.len, c.end_act.ensures.room, p.journal.ok.0, c.reserve.new.self.ok.0))
 
-pub returns : goal.returns
-returns g c =
+pub returns-clause-answers : goal.returns-clause-answers
+returns-clause-answers g c =
     let K = g.K.Meaning.modelling in
     let p = c.self.inside in
     let s = p.contents.state in
@@ -36,4 +38,12 @@ returns g c =
     let new = view p.number c.goto.new.self c.end_act.new.journal.items (vec_capacity c.end_act.new.journal - vec_len c.end_act.new.journal) in
     subst (λ (v : PartitionView). Answers K v a c.end_act.result new) c.self.view_is
     (subst (λ r. Answers K old a r new) (sym c.end_act.ensures.answer)
-    (did_answers K old new t a c.in_ok-done.done holds enough c.in_ok-done.ensures refl grown))
+    (did_answers K old new t a c.in_ok-done.done holds enough c.in_ok-done.ensures.does refl grown))
+
+pub returns-clause-cost : goal.returns-clause-cost
+returns-clause-cost g c =
+    let s = c.self.inside.contents.state in
+    let goes : c.goto.new.steps ≤ c.args.steps.now + 4 * work s c.args.m = c.in_ok-done.ensures.cost in
+    subst (λ (v : PartitionView). GoesWithin v.state c.args.m c.end_act.result c.args.steps.now c.goto.new.steps) c.self.view_is
+    (subst (λ r. GoesWithin s c.args.m r c.args.steps.now c.goto.new.steps) (sym c.end_act.ensures.answer)
+    (goes_answered s c.args.m c.in_ok-done.done c.args.steps.now c.goto.new.steps goes c.in_ok-done.ensures.refused))

@@ -23,8 +23,8 @@ invariant_of-self-2 g c =
     (did_leads K s c.mark.new.self.state t a c.in_ok-done.done holds enough c.in_ok-done.ensures) grown
     (λ h. omega (arith, c.in_ok-reserve.ensures.ok, c.in_ok-reserve.ensures.len, c.end_act.ensures.room, p.journal.ok.0, c.reserve.new.self.ok.0))
 
-pub returns : goal.returns
-returns g c =
+pub returns-clause-answers : goal.returns-clause-answers
+returns-clause-answers g c =
     let K = g.K.Meaning.modelling in
     let p = c.self.inside in
     let s = p.contents.state in

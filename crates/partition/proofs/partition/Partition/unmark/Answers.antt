@@ -18,8 +18,8 @@ invariant_of-self-2 g c =
     let holds : s.holder ≡ Some t = sym c.holder.ensures ∙ c.unwrap-thread.ensures in
     let enough : short K s a ≡ 0 = not_short 0 (spare_of s.blocks s.used) (omega arith) in
     let grown = c.end_act.ensures.entry ∙ ap (λ j. j ++ Did t a ∷ []) c.in_ok-reserve.ensures.items in
-    valid_after K p.number s p.journal.items _ c.self.invariant (Did t a) (Some c.unmark-done.result) c.unmark-done.new.self.state _ _
-    (did_leads K s c.unmark-done.new.self.state t a c.unmark-done.result holds enough c.unmark-done.ensures) grown
+    valid_after K p.number s p.journal.items _ c.self.invariant (Did t a) (Some c.in_ok-done.done) c.unmark.new.self.state _ _
+    (did_leads K s c.unmark.new.self.state t a c.in_ok-done.done holds enough c.in_ok-done.ensures) grown
     (λ h. omega (arith, c.in_ok-reserve.ensures.ok, c.in_ok-reserve.ensures.len, c.end_act.ensures.room, p.journal.ok.0, c.reserve.new.self.ok.0))
 
 pub returns : goal.returns
@@ -33,7 +33,7 @@ returns g c =
     let enough : short K s a ≡ 0 = not_short 0 (spare_of s.blocks s.used) (omega arith) in
     let grown = c.end_act.ensures.entry ∙ ap (λ j. j ++ Did t a ∷ []) c.in_ok-reserve.ensures.items in
     let old = view p.number p.contents p.journal.items (vec_capacity p.journal - vec_len p.journal) in
-    let new = view p.number c.unmark-done.new.self c.end_act.new.journal.items (vec_capacity c.end_act.new.journal - vec_len c.end_act.new.journal) in
+    let new = view p.number c.unmark.new.self c.end_act.new.journal.items (vec_capacity c.end_act.new.journal - vec_len c.end_act.new.journal) in
     subst (λ (v : PartitionView). Answers K v a c.end_act.result new) c.self.view_is
     (subst (λ r. Answers K old a r new) (sym c.end_act.ensures.answer)
-    (did_answers K old new t a c.unmark-done.result holds enough c.unmark-done.ensures refl grown))
+    (did_answers K old new t a c.in_ok-done.done holds enough c.in_ok-done.ensures refl grown))

@@ -1,0 +1,22 @@
+-- In reading order.
+pub mod Performing
+pub mod TurnedLists
+pub mod GivenBack
+pub mod Placed
+pub mod Laws
+pub mod MevKev
+pub mod Renamings
+pub mod SameNames
+pub mod Carrying
+pub mod OneLoop
+pub mod MfkrhKfmrh
+pub mod MefKef
+pub mod AnewNames
+pub mod MvfsKvfs
+pub mod KevMev
+pub mod KevRead
+pub mod KfmrhMfkrh
+pub mod Worked
+pub mod MekrKemr
+pub mod KemrMekr
+pub mod Read

@@ -1,0 +1,23 @@
+-- In reading order.
+pub mod InOrder
+pub mod Turnings
+pub mod Rows
+pub mod Moved
+pub mod ReadAgain
+pub mod Steps
+pub mod Paths
+pub mod Laminas
+pub mod Raised
+pub mod Sides
+pub mod Ints
+pub mod Newells
+pub mod Sweeps
+pub mod Prisms
+pub mod PrismRows
+pub mod Levels
+pub mod NewPlaces
+pub mod PlaneFaces
+pub mod NewLoops
+pub mod SolidPlanes
+pub mod SweepPlanes
+pub mod FromNothing

@@ -1,0 +1,9 @@
+use Rattle.std.proofs.Common.{refl}
+use Rattle.solid_forms.proofs.FromNothing.{lamina-from_nothing}
+use Rattle.solid_forms.proofs.worked.worked_lamina.Goals as goal
+
+pub returns-clause-reached : goal.returns-clause-reached
+returns-clause-reached c = lamina-from_nothing
+
+pub returns-clause-lists : goal.returns-clause-lists
+returns-clause-lists c = refl

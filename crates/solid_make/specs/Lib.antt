@@ -1,0 +1,3 @@
+-- In reading order.
+pub mod Checks
+pub mod Making

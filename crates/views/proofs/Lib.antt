@@ -1,0 +1,3 @@
+-- In reading order.
+pub mod Given
+pub mod Onward

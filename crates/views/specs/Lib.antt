@@ -1,0 +1,4 @@
+-- In reading order.
+pub mod Kids
+pub mod Fins
+pub mod Views
