@@ -1,5 +1,5 @@
 -- What an act reaches, from what was done to the fields.
-use Rattle.std.proofs.Common.{◌≡◌, ℕ, Bool, true, cond, None, ◌+◌, ◌*◌, ◌-◌, ◌≤◌, List, [], ◌∷◌, ◌++◌, map, length, Option, Some, Result, Ok, Err, refl, sym, ap, subst, ◌∙◌, arith}
+use Rattle.std.proofs.Common.{◌≡◌, ℕ, true, cond, None, ◌+◌, ◌*◌, ◌-◌, ◌≤◌, List, [], ◌∷◌, ◌++◌, map, length, Option, Some, Result, Ok, Err, sym, ap, ◌∙◌, arith}
 use Rattle.pk_base.specs.Entity.{same_tag}
 use Rattle.pk_base.specs.declared.tag.Tag.{Tag}
 use Rattle.pk_base.specs.declared.call.Call.{Call}
@@ -16,7 +16,7 @@ use Rattle.pk_model.specs.Modelling.{Modelling}
 use Rattle.pk_model.specs.Step.{◌>>=◌, short, Reach, reach_of, call_reaches, goto_reaches, unmark_reaches, after_deletion, mark_among, parent_of}
 use Rattle.pk_model.proofs.TagLists.{tag_at-next_tags}
 use Rattle.pk_model.proofs.Steps.{enough_tags, reach_of-call, reach_of-goto}
-use Rattle.entity_store.specs.Store.{Stored, StoreView}
+use Rattle.entity_store.specs.Store.{StoreView}
 use Rattle.pmark_tree.specs.declared.mark.TreeMark.{TreeMark}
 use Rattle.pmark_tree.specs.Marks.{parent_in}
 use Rattle.pmark_tree.specs.Maps.{map_of, whole_marks}

@@ -1,5 +1,5 @@
 -- A goto, step by step: what is unsaved is undone, then the way is walked up and down.
-use Rattle.std.proofs.Common.{◌≡◌, ℕ, ◌+◌, ◌*◌, ◌≤◌, true, false, List, [], ◌∷◌, map, length, refl, sym, ap, subst, ◌∙◌, arith}
+use Rattle.std.proofs.Common.{◌≡◌, ℕ, ◌+◌, ◌≤◌, true, false, List, [], length, sym, ap, subst, ◌∙◌, arith}
 use Rattle.std.specs.List.{AllByRecursion}
 use Rattle.std.proofs.lemmas.List.{length-map}
 use Rattle.pk_base.specs.declared.tag.Tag.{Tag}
@@ -26,7 +26,7 @@ use Rattle.pmark_tree.specs.Trees.{IsTree}
 use Rattle.partition.specs.Contents.{AreHosted}
 use Rattle.partition.specs.Goes.{MayApply, MayWalk, entries_in, walked}
 use Rattle.partition.proofs.Ours.{hosted_live, may_undo}
-use Rattle.partition.proofs.Unsaved.{lent_began}
+use Rattle.partition.proofs.Joining.{lent_began}
 use Rattle.partition.proofs.Walks.{climbs_to, descends_to}
 
 pub room_for_fewer : (n k : ℕ) (out : ListsBuilder) → n ≤ k → HasRoomForAll k out → HasRoomForAll n out

@@ -1,6 +1,7 @@
+pub mod Differences
 pub mod Blocks
 pub mod Performing
-pub mod Unsaved
+pub mod Joining
 pub mod MarkLists
 pub mod Named
 pub mod Ours

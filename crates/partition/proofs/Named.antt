@@ -1,9 +1,7 @@
 -- A mark of the tree among the marks with their whole maps.
-use Rattle.std.proofs.Common.{◌≡◌, ℕ, suc, ◌<◌, true, false, Bool, cond, List, [], ◌∷◌, ◌++◌, map, filter, find, length, Option, Some, None, option_map, is_some, Result, Ok, Err, refl, sym, ap, subst, ◌∙◌, ⊎_elim, arith}
-use Rattle.std.specs.Prelude.{Contains, IsSome}
+use Rattle.std.proofs.Common.{◌≡◌, ℕ, suc, ◌<◌, true, false, Bool, cond, List, [], ◌∷◌, ◌++◌, map, filter, find, length, Option, Some, None, option_map, is_some, Result, Ok, Err, refl, sym, ap, ◌∙◌, arith}
 use Rattle.std.specs.List.{AllByRecursion}
 use Rattle.std.specs.FinMap.{empty}
-use Rattle.std.proofs.lemmas.Bool.{true≢false}
 use Rattle.pk_base.specs.Entity.{same_tag, same_optional}
 use Rattle.pk_base.proofs.Same.{same_tag-Decides}
 use Rattle.pk_base.specs.declared.tag.Tag.{Tag}

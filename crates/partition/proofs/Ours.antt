@@ -1,7 +1,7 @@
 -- The marks of a partition have tags that were taken, and their entities are hosted; so the changes between two of
 -- their maps may be applied.
-use Rattle.std.proofs.Common.{◌≡◌, ◌≢◌, ℕ, zero, suc, ◌+◌, ◌*◌, ◌<◌, ◌≤◌, true, false, Bool, cond, List, [], ◌∷◌, ◌++◌, map, take, length, get_or, Option, Some, None, refl, sym, ap, subst, ◌∙◌, ⊎_elim, arith}
-use Rattle.std.specs.Prelude.{Contains, IsTrue, slice_index_or}
+use Rattle.std.proofs.Common.{◌≡◌, ◌≢◌, ℕ, zero, suc, ◌+◌, ◌*◌, ◌<◌, ◌≤◌, true, false, cond, List, [], ◌∷◌, ◌++◌, map, take, length, get_or, Option, Some, None, refl, sym, subst, ◌∙◌, ⊎_elim, arith}
+use Rattle.std.specs.Prelude.{Contains, IsTrue}
 use Rattle.std.specs.List.{AllByRecursion}
 use Rattle.std.specs.FinMap.{empty, get, get-empty}
 use Rattle.pk_base.specs.Blocks.{tag}
@@ -12,16 +12,16 @@ use Rattle.pk_model.specs.Tags.{Ascends, TagsAscend, owns, next_tags, tag_at, ta
 use Rattle.pk_model.specs.Maps.{EntityMap, tag_cmp}
 use Rattle.pk_model.specs.State.{Mark}
 use Rattle.pk_model.specs.Step.{after_deletion, deleted_mark}
-use Rattle.pk_model.proofs.TagLists.{TagsAscend-tags_of, length-tags_of, tag_at-next_tags, take-tags_of-append, take-tags_of-more}
+use Rattle.pk_model.proofs.TagLists.{TagsAscend-tags_of, length-tags_of, take-tags_of-append, take-tags_of-more}
 use Rattle.pk_model.proofs.TagsTaken.{ByRecursion-find}
-use Rattle.list_facts.proofs.Each.{ByRecursion-append, ByRecursion-get_or, ByRecursion-map, ByRecursion-weaker}
+use Rattle.list_facts.proofs.Each.{ByRecursion-get_or, ByRecursion-map, ByRecursion-weaker}
 use Rattle.list_facts.proofs.Elements.{not_in_nil, Contains-cases}
 use Rattle.std.proofs.lemmas.List.Elements.{Contains-append_left}
 use Rattle.entity_store.specs.declared.changes.Change.{Change}
 use Rattle.entity_store.specs.Changes.{AreChanges}
-use Rattle.entity_store.specs.Store.{IfHosted, IsHosted}
+use Rattle.entity_store.specs.Store.{IfHosted}
 use Rattle.entity_store.proofs.KeptSlots.{hosted_more}
-use Rattle.delta.specs.Deltas.{StartsAt, after, in_direction, inverse, tags_in}
+use Rattle.delta.specs.Deltas.{StartsAt, after, inverse, tags_in}
 use Rattle.delta.proofs.Leads.{StartsAt-inverse, get-after_each}
 use Rattle.pmark_tree.specs.declared.mark.TreeMark.{TreeMark}
 use Rattle.pmark_tree.specs.Marks.{is_live}

@@ -1,12 +1,12 @@
 -- What is unsaved behind the parent of a mark, where so much is unsaved behind the mark.
-use Rattle.std.proofs.Common.{◌≡◌, true, false, List, Option, Some, None, refl, sym, ap, subst, ◌∙◌, arith}
+use Rattle.std.proofs.Common.{◌≡◌, true, false, List, Some, None, refl, sym, ap, subst, ◌∙◌, arith}
 use Rattle.std.specs.Prelude.{IsSome}
 use Rattle.pk_base.specs.Entity.{same_tag}
 use Rattle.pk_base.proofs.Same.{same_tag-Decides}
 use Rattle.pk_base.specs.declared.tag.Tag.{Tag}
 use Rattle.pk_model.specs.Maps.{EntityMap}
 use Rattle.entity_store.specs.declared.changes.Change.{Change}
-use Rattle.entity_store.specs.Changes.{AreChanges, net_changes}
+use Rattle.entity_store.specs.Changes.{net_changes}
 use Rattle.delta.specs.Deltas.{Follows, StartsAt, after}
 use Rattle.delta.proofs.Leads.{StartsAt-net_changes, after-net_changes, follows-after}
 use Rattle.pmark_tree.specs.declared.mark.TreeMark.{TreeMark}

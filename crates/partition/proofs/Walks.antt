@@ -1,5 +1,5 @@
 -- Along the tree: what a store has once the changes of marks are applied one behind the other, and how many they are.
-use Rattle.std.proofs.Common.{◌≡◌, ℕ, suc, ◌+◌, ◌*◌, ◌<◌, ◌≤◌, true, false, Bool, List, [], ◌∷◌, ◌++◌, map, drop, reverse, length, get_or, Option, Some, refl, sym, ap, subst, ◌∙◌, arith}
+use Rattle.std.proofs.Common.{◌≡◌, ℕ, ◌+◌, ◌<◌, true, false, Bool, List, [], ◌∷◌, drop, length, get_or, refl, sym, ap, subst, ◌∙◌}
 use Rattle.std.specs.Prelude.{IsSome}
 use Rattle.std.specs.List.{AllByRecursion}
 use Rattle.std.proofs.lemmas.List.{drop_more}
@@ -7,11 +7,10 @@ use Rattle.std.proofs.lemmas.List.Sums.{sum_by-drop_more}
 use Rattle.pk_base.specs.declared.tag.Tag.{Tag}
 use Rattle.pk_model.specs.Maps.{EntityMap}
 use Rattle.pk_model.specs.State.{Mark}
-use Rattle.entity_store.specs.Changes.{AreChanges}
-use Rattle.delta.specs.Deltas.{StartsAt, after, in_direction, inverse}
+use Rattle.delta.specs.Deltas.{after, in_direction, inverse}
 use Rattle.delta.proofs.Leads.{after-inverse}
 use Rattle.pmark_tree.specs.declared.mark.TreeMark.{TreeMark}
-use Rattle.pmark_tree.specs.Marks.{delta_in, is_live, parent_in}
+use Rattle.pmark_tree.specs.Marks.{delta_in, parent_in}
 use Rattle.pmark_tree.specs.Maps.{map_of, whole_marks}
 use Rattle.pmark_tree.specs.Paths.{Climbs, Descends}
 use Rattle.pmark_tree.specs.Trees.{IsTree}

@@ -1,15 +1,14 @@
 -- The changes on a way are as many as its work counts.
-use Rattle.std.proofs.Common.{◌≡◌, ℕ, suc, ◌+◌, ◌*◌, ◌≤◌, Bool, true, false, cond, ◌&&◌, List, [], ◌∷◌, ◌++◌, map, filter, reverse, length, Option, None, Some, Result, Ok, Err, is_none, is_some, refl, sym, ap, subst, ◌∙◌, arith}
+use Rattle.std.proofs.Common.{◌≡◌, ℕ, suc, ◌+◌, ◌*◌, ◌≤◌, true, cond, ◌&&◌, List, [], ◌∷◌, ◌++◌, map, filter, reverse, length, Option, None, Some, Result, Ok, Err, is_none, is_some, refl, sym, ap, ◌∙◌, arith}
 use Rattle.std.specs.Prelude.{IfErr, sum_by}
 use Rattle.std.proofs.lemmas.List.{reverse-append}
 use Rattle.std.proofs.lemmas.List.Sums.{sum_by-append, sum_by-cons}
 use Rattle.pk_base.specs.declared.tag.Tag.{Tag}
 use Rattle.pk_base.specs.declared.entity.Entity.{Entity}
-use Rattle.pk_base.specs.declared.list.Lists.{Lists}
 use Rattle.pk_base.specs.declared.act.Reply.{Reply}
 use Rattle.pk_base.specs.declared.refusal.Refusal.{Refusal}
 use Rattle.pk_model.specs.Maps.{EntityMap, diff}
-use Rattle.pk_model.specs.State.{Mark, PartitionState}
+use Rattle.pk_model.specs.State.{PartitionState}
 use Rattle.entity_store.specs.declared.changes.Change.{Change}
 use Rattle.entity_store.specs.Changes.{AreChanges, lists_among, net_changes}
 use Rattle.entity_store.proofs.NetChanges.{AreChanges-net_changes}

@@ -17,11 +17,11 @@ use Rattle.pk_model.specs.State.{Mark, PartitionState}
 use Rattle.pk_model.specs.Modelling.{Modelling}
 use Rattle.pk_model.specs.Step.{reach_of}
 use Rattle.entity_store.specs.declared.changes.Change.{Change}
-use Rattle.entity_store.specs.Changes.{net_changes}
 use Rattle.entity_store.specs.Store.{IsHosted, StoreView}
 use Rattle.pmark_tree.specs.declared.mark.TreeMark.{TreeMark}
 use Rattle.pmark_tree.specs.Marks.{is_live}
 use Rattle.pmark_tree.specs.Maps.{map_of, whole_marks}
+use Rattle.partition.specs.Unsaved.{IsUnsaved}
 
 -- what contracts inside the crate see: the state, and for how many more blocks there is room
 pub record ContentsView : Type 0 where
@@ -53,14 +53,14 @@ pub record IsOurs (blocks : List ℕ) (used : ℕ) (k : Mark) : Type 0 where
   pub hosted : AreHosted blocks k.map
 
 -- The list of the blocks is the store's, no more tags are taken than the blocks have, and the
--- blocks are no more than there may be. The current mark is live, and what is unsaved is the net
--- change from what it stands for to what there is now.
+-- blocks are no more than there may be. The current mark is live, and what is unsaved is how what
+-- there is now differs from what it stands for.
 pub record AreContents (blocks list : List ℕ) (now : EntityMap) (marks : List TreeMark)
-    (unsaved : List Change) (at : Tag) (used : ℕ) : Type 0 where
+    (unsaved : List (ℕ × Change)) (at : Tag) (used : ℕ) : Type 0 where
   pub listed : list ≡ blocks
   pub ours : AllByRecursion (IsOurs blocks used) (whole_marks marks)
   pub lives : is_live marks at ≡ true
-  pub net : unsaved ≡ net_changes (map_of marks at) now
+  pub net : IsUnsaved (map_of marks at) now unsaved
   pub within : used ≤ TAGS_OF_A_BLOCK * length blocks
   pub few : length blocks ≤ LAST_BLOCK
 

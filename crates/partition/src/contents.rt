@@ -15,10 +15,12 @@ ghost use Rattle.pmark_tree.specs.Marks.{is_live, parent_in};
 ghost use Rattle.pmark_tree.specs.Maps.{map_of, whole_marks};
 ghost use Rattle.partition.specs.Work.{work};
 ghost use Rattle.partition.specs.Contents.{Does};
+ghost use Rattle.partition.specs.Unsaved.{IsUnsaved};
 
 use crate::goes::go;
 use crate::marks::{check_live, list_live, parent_of};
 use crate::perform::perform;
+use crate::unsaved::Unsaved;
 use delta::Delta;
 use entity_store::{Modeller, Steps, Store, Tags};
 use pk_base::{
@@ -28,7 +30,6 @@ use pk_base::{
 use pmark_tree::MarkTree;
 use std::alloc::Global;
 use std::marker::Model;
-use std::mem;
 use std::sync::ledger::Ledger;
 
 /// The entities that are live, the marks with the current one, how many tags were taken, and the
@@ -43,9 +44,7 @@ pub(crate) struct Contents<K: Modeller> {
     blocks: Vec<u32>,
     tree: MarkTree,
     at: Tag,
-    // How the store differs from what the current mark stands for: each tag that differs has here
-    // what it named then.
-    unsaved: Delta,
+    unsaved: Unsaved,
     used: u64,
     holder: Option<u32>,
 }
@@ -66,8 +65,8 @@ impl<K: Modeller> Model for Contents<K> {
     } };
 
     ghost invariant = { λ c.
-        AreContents c.store.state.blocks c.blocks.items c.store.state.map c.tree.marks c.unsaved
-        c.at c.used };
+        AreContents c.store.state.blocks c.blocks.items c.store.state.map c.tree.marks
+        c.unsaved.changes.entries c.at c.used };
 }
 
 impl<K: Modeller> Contents<K> {
@@ -83,6 +82,7 @@ impl<K: Modeller> Contents<K> {
         blocks.push(p)?;
         let initial = Tag::first_of(p);
         let tree = MarkTree::begin(alloc, initial)?;
+        let unsaved = Unsaved::new(alloc);
         Ok(Contents {
             alloc,
             kind,
@@ -90,7 +90,7 @@ impl<K: Modeller> Contents<K> {
             blocks,
             tree,
             at: initial,
-            unsaved: Delta::empty(alloc),
+            unsaved,
             used: 1,
             holder: None,
         })
@@ -184,14 +184,16 @@ impl<K: Modeller> Contents<K> {
         requires { 0 < spare_of self.old.state.blocks self.old.state.used }
         ensures { Does K.modelling self.old.state act.Mark result self.new.state }
     {
+        let changes = self.unsaved.to_delta(self.alloc)?;
+        let nothing = Unsaved::new(self.alloc);
         self.tree.reserve()?;
         let mut made = TagListBuilder::with_room(self.alloc, 1)?;
         // Its clauses say that the blocks ascend.
         let _blocks = self.store.blocks();
         let tag = Tags::of(&self.blocks, self.used).take();
         made.push(tag);
-        let changes = mem::replace(&mut self.unsaved, Delta::empty(self.alloc));
         self.tree.add(tag, self.at, changes);
+        self.unsaved = nothing;
         self.at = tag;
         self.used += 1;
         Ok(Ok(Reply::Made(made.finish())))
@@ -210,16 +212,17 @@ impl<K: Modeller> Contents<K> {
         if let Err(refusal) = check_live(&self.store, &self.tree, m) {
             return Ok(Err(refusal));
         }
+        let unsaved = self.unsaved.to_delta(self.alloc)?;
         let lists = go(
             self.alloc,
             &mut self.store,
             &self.tree,
-            &self.unsaved,
+            &unsaved,
             self.at,
             m,
             steps,
         )?;
-        self.unsaved = Delta::empty(self.alloc);
+        self.unsaved = Unsaved::new(self.alloc);
         self.at = m;
         Ok(Ok(Reply::Went(lists)))
     }
@@ -238,7 +241,8 @@ impl<K: Modeller> Contents<K> {
             Err(refusal) => return Ok(Err(refusal)),
         };
         if self.at == m {
-            self.unsaved = remove_current(self.alloc, &mut self.tree, m, &self.unsaved, steps)?;
+            let unsaved = self.unsaved.to_delta(self.alloc)?;
+            self.unsaved = remove_current(self.alloc, &mut self.tree, m, &unsaved, steps)?;
             self.at = parent;
             return Ok(Ok(Reply::Done));
         }
@@ -322,21 +326,22 @@ fn remove_current<L: Ledger>(
     m: Tag,
     unsaved: &Delta,
     steps: &mut Steps<L>,
-) -> Result<Delta, NoMemory>
+) -> Result<Unsaved, NoMemory>
     requires lives { is_live tree.old.marks m ≡ true }
     requires parent { IsSome (parent_in tree.old.marks m) }
     requires starts { StartsAt (map_of tree.old.marks m) unsaved.now }
     ensures whole { OnOk result ((p : Tag) → parent_in tree.old.marks m ≡ Some p
         → whole_marks tree.new.marks ≡ map (after_deletion m p) (whole_marks tree.old.marks)) }
-    ensures net { IfOk result (λ d. (p : Tag) → parent_in tree.old.marks m ≡ Some p
+    ensures net { IfOk result (λ u. (p : Tag) → parent_in tree.old.marks m ≡ Some p
         → (n : EntityMap) → unsaved.now ≡ net_changes (map_of tree.old.marks m) n
-        → d ≡ net_changes (map_of tree.old.marks p) n) }
+        → IsUnsaved (map_of tree.old.marks p) n u.changes.entries) }
     ensures kept { OnErr result (tree.new ≡ tree.old) }
 {
     // Its clause says that the changes of the mark lead from its parent to it.
     let _parent = tree.parent(m);
     let delta = tree.delta(m);
     let behind = Delta::compose(alloc, delta, unsaved, steps)?;
+    let joined = Unsaved::of_delta(alloc, &behind, steps)?;
     tree.remove(m, steps)?;
-    Ok(behind)
+    Ok(joined)
 }

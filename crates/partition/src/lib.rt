@@ -9,3 +9,4 @@ mod goes;
 mod marks;
 mod partition;
 mod perform;
+mod unsaved;

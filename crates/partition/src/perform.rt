@@ -2,12 +2,12 @@ ghost use Rattle.std.specs.Prelude.{◌≡◌, ◌*◌, ◌≤◌, length};
 ghost use Rattle.pk_model.specs.Tags.{next_tags};
 ghost use Rattle.pk_model.specs.Maps.{EntityMap};
 ghost use Rattle.pk_model.specs.Modelling.{MayBeAsked};
-ghost use Rattle.entity_store.specs.Changes.{net_changes};
-ghost use Rattle.delta.specs.Deltas.{StartsAt, inverse};
 ghost use Rattle.partition.specs.Goes.{Performs};
+ghost use Rattle.partition.specs.Unsaved.{IsUnsaved};
 
+use crate::unsaved::Unsaved;
 use delta::Delta;
-use entity_store::{ChangeListBuilder, Modeller, RecordRoom, Steps, Store, Tags};
+use entity_store::{Modeller, RecordRoom, Steps, Store, Tags};
 use pk_base::{Call, NoMemory, Refusal, Reply, TAGS_OF_A_BLOCK, TagListBuilder};
 use std::alloc::Global;
 use std::sync::ledger::Ledger;
@@ -20,7 +20,7 @@ pub(crate) fn perform<K: Modeller, L: Ledger>(
     alloc: Global,
     kind: &K,
     store: &mut Store,
-    unsaved: &mut Delta,
+    unsaved: &mut Unsaved,
     blocks: &[u32],
     used: u64,
     call: &Call,
@@ -30,10 +30,9 @@ pub(crate) fn perform<K: Modeller, L: Ledger>(
         (next_tags store.old.state.blocks used) }
     requires blocks { blocks.now ≡ store.old.state.blocks }
     requires within { used ≤ TAGS_OF_A_BLOCK * length store.old.state.blocks }
-    requires leads { StartsAt store.old.state.map (inverse unsaved.old) }
     ensures performs { Performs K.modelling store.old.state used call.now result store.new.state }
-    ensures unsaved { (m : EntityMap) → unsaved.old ≡ net_changes m store.old.state.map
-        → unsaved.new ≡ net_changes m store.new.state.map }
+    ensures unsaved { (m : EntityMap) → IsUnsaved m store.old.state.map unsaved.old.changes.entries
+        → IsUnsaved m store.new.state.map unsaved.new.changes.entries }
 {
     let need = match kind.need(store, call, steps) {
         Ok(need) => need,
@@ -41,15 +40,13 @@ pub(crate) fn perform<K: Modeller, L: Ledger>(
     };
     let out = TagListBuilder::with_room(alloc, need.list)?;
     let room = RecordRoom::new(alloc, need.changes)?;
-    // More changes than are counted here are more than memory holds.
-    let most = unsaved.len().checked_add(need.changes).ok_or(NoMemory)?;
-    let joined = ChangeListBuilder::with_room(alloc, most)?;
+    unsaved.reserve(need.changes)?;
     // Its clauses say that the blocks ascend, which the tags ask for.
     let _blocks = store.blocks();
     let mut tags = Tags::of(blocks, used);
     let mut rec = store.recorder_with(room);
     let reply = kind.perform(&mut rec, call, &mut tags, out, steps);
     let changes = Delta::from_changes(rec.finish(steps));
-    *unsaved = Delta::compose_within(joined, unsaved, &changes, steps);
+    unsaved.join(&changes, steps);
     Ok(Ok((reply, need.tags)))
 }

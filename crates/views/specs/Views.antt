@@ -1,6 +1,7 @@
 -- What contracts see of a view: the map of the store that it borrows, and which body, face or loop
 -- of it is viewed.
-use Rattle.std.specs.Prelude.{◌≡◌, if◌then◌else◌, Option, None, Some, IfSome, refl}
+use Rattle.std.specs.Prelude.{◌≡◌, ℕ, nat_le, if◌then◌else◌, List, Option, None, Some, IfSome, refl}
+use Rattle.std.specs.List.{take_while}
 use Rattle.std.specs.Option.{option_and_then}
 use Rattle.std.specs.Coded.{Coded, code_by, coded×}
 use Rattle.std.specs.FinMap.{get}
@@ -67,3 +68,20 @@ point_if b (entity.Attr owner name value) = None
 -- the point of the vertex of this body under the tag, where there is one
 abbrev pub point_in_body : EntityMap → Tag → Tag → Option Point
 point_in_body m b t = option_and_then (point_if b) (get m t)
+
+-- ---- what is lent of an attribute
+
+-- its name, without the padding
+abbrev pub name_if : Entity → Option (List ℕ)
+name_if (entity.Attr owner name value) = Some (take_while (λ b. nat_le 1 b) name.0)
+name_if (entity.Body shell) = None
+name_if (entity.Shell body q) = None
+name_if (entity.Face shell outer) = None
+name_if (entity.Loop face first vertex) = None
+name_if (entity.Fin l next prev mate edge vertex) = None
+name_if (entity.Edge body fin) = None
+name_if (entity.Vertex body point) = None
+
+-- the name of the attribute under the tag, where there is one
+abbrev pub name_under : EntityMap → Tag → Option (List ℕ)
+name_under m t = option_and_then name_if (get m t)

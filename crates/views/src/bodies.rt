@@ -1,10 +1,11 @@
-ghost use Rattle.std.specs.Prelude.{◌≡◌, Ok, Err, IfOk, IfErr, None, option_copied};
+ghost use Rattle.std.specs.Prelude.{◌≡◌, Ok, Err, IfOk, IfErr, None, nat_le, option_copied, option_map};
+ghost use Rattle.std.specs.List.{take_while};
 ghost use Rattle.pk_base.specs.declared.entity.Class.TheVariants as class;
 ghost use Rattle.solid_model.specs.Places.{body_at as the_body_at};
 ghost use Rattle.solid_model.specs.Shapes.{shape_of};
 ghost use Rattle.solid_model.specs.Sound.{IsSound};
 ghost use Rattle.views.specs.Kids.{GivesClass};
-ghost use Rattle.views.specs.Views.{point_in_body};
+ghost use Rattle.views.specs.Views.{name_under, point_in_body};
 
 use crate::KidIter;
 use entity_store::{Steps, Store};
@@ -90,4 +91,28 @@ impl<'a> BodyView<'a> {
             None
         }
     }
+
+    /// The name of an attribute, without its padding; `None` exactly where the tag names no live
+    /// attribute. It takes no memory.
+    pub fn name<L: Ledger>(&self, attr: Tag, steps: &mut Steps<L>) -> Option<&'a [u8]>
+        ensures { option_map (λ name. name.now) result ≡ name_under self.now.map attr }
+    {
+        let store = self.store;
+        let Entity::Attr { name, .. } = store.get(attr, steps)? else {
+            return None;
+        };
+        Some(without_padding(&name.0))
+    }
+}
+
+/// The bytes before the first zero, or all where there is none.
+fn without_padding(bytes: &[u8]) -> &[u8]
+    ensures { result.now ≡ take_while (λ b. nat_le 1 b) bytes.now }
+{
+    for i in 0..bytes.len() {
+        if bytes[i] == 0 {
+            return &bytes[..i];
+        }
+    }
+    bytes
 }

@@ -1,17 +1,10 @@
-use Rattle.std.proofs.Common.{◌≡◌, ℕ, ◌+◌, ◌*◌, ◌≤◌, false, true, List, Option, Some, length, reverse, map, sym, ap, subst, ◌∙◌, arith, rules}
-use Rattle.std.specs.Prelude.{IfSome, IsSome}
-use Rattle.std.specs.List.{AllByRecursion}
+use Rattle.std.proofs.Common.{◌≡◌, ℕ, ◌+◌, ◌≤◌, false, true, List, Option, length, sym, ap, subst, ◌∙◌, arith, rules}
+use Rattle.std.specs.Prelude.{IfSome}
 use Rattle.pk_base.specs.declared.tag.Tag.{Tag}
-use Rattle.pk_base.specs.declared.list.Lists.{Lists}
 use Rattle.pk_model.specs.Maps.{diff}
-use Rattle.entity_store.specs.Lists.{HasRoomForAll}
-use Rattle.entity_store.specs.Recorder.{Records, began}
-use Rattle.entity_store.specs.Store.{Stored, StoreView}
-use Rattle.entity_store.specs.declared.changes.Change.{Change}
-use Rattle.delta.specs.Deltas.{after, inverse}
-use Rattle.pmark_tree.specs.Marks.{parent_in}
+use Rattle.entity_store.specs.Recorder.{Records}
+use Rattle.entity_store.specs.Store.{Stored}
 use Rattle.pmark_tree.specs.Maps.{map_of}
-use Rattle.pmark_tree.specs.Paths.{apart_of}
 use Rattle.partition.specs.Goes.{MayWalk, entries_in, walked}
 use Rattle.partition.proofs.Going.{down_room, down_walks, end_puts, room_for_fewer, undo, undo_room, up_room, up_walks, went}
 use Rattle.partition.proofs.Walks.{climbs-parents, descends-parents}

@@ -1,6 +1,5 @@
 use Rattle.std.proofs.Common.{◌≡◌, ◌+◌, ◌++◌, ◌∷◌, [], List, map, take, sym, ap, ◌∙◌, append_assoc, arith}
 use Rattle.std.proofs.lemmas.List.{map-append, take_all}
-use Rattle.pk_base.specs.declared.tag.Tag.{Tag}
 use Rattle.pk_base.specs.declared.list.MarkRow.{MarkRow}
 use Rattle.delta.proofs.Places.{take-next}
 use Rattle.pmark_tree.specs.Marks.{live_tags}

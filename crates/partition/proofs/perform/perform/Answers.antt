@@ -1,15 +1,15 @@
-use Rattle.std.proofs.Common.{◌≡◌, ℕ, ◌<◌, ◌≤◌, ◌+◌, ◌^◌, Option, [], length, ap, sym, subst, ◌∙◌, arith, rules}
-use Rattle.std.specs.Prelude.{SomeIff}
+use Rattle.std.proofs.Common.{◌≡◌, ◌≤◌, length, ap, sym, subst, ◌∙◌, arith, rules}
 use Rattle.pk_model.specs.Maps.{EntityMap}
 use Rattle.entity_store.specs.Changes.{net_changes}
 use Rattle.entity_store.specs.Store.{Stored}
 use Rattle.entity_store.specs.Recorder.{began}
 use Rattle.entity_store.specs.Recording.{Recording}
-use Rattle.delta.specs.Deltas.{StartsAt}
-use Rattle.delta.proofs.Leads.{StartsAt-net_changes}
+use Rattle.delta.specs.Deltas.{StartsAt, after}
+use Rattle.delta.proofs.Leads.{StartsAt-net_changes, after-net_changes}
 use Rattle.partition.specs.Goes.{Made}
+use Rattle.partition.specs.Unsaved.{IsUnsaved}
 use Rattle.partition.proofs.Performing.{may_perform, performed}
-use Rattle.partition.proofs.Unsaved.{ends-follow, lent_began, net-joined, recorded_few}
+use Rattle.partition.proofs.Joining.{lent_began, recorded_few}
 use Rattle.partition.proofs.perform.perform.Goals as goal
 
 pub perform-reply-requires : goal.perform-reply-requires
@@ -20,36 +20,15 @@ perform-reply-requires g c =
     may_perform K old c.args.used c.args.call.now c.in-Ok.need c.in-Ok.ensures c.recorder_with-rec.result.store.now c.of-tags.result c.recorder_with-rec.ensures.state next
     c.in_ok-out.out c.requires.asked (c.recorder_with-rec.ensures.record ∙ c.in_ok-room.ensures) c.in_ok-out.ensures.empty (omega (arith, c.in_ok-out.ensures.room))
 
-pub compose_within-requires-clause-follows : goal.compose_within-requires-clause-follows
-compose_within-requires-clause-follows g c =
-    let old = c.args.store.now.state in
-    let lent = c.recorder_with-rec.result.store.now in
-    let end = c.perform-reply.new.rec.store.now in
-    let start : began lent ≡ old.map = lent_began old lent c.recorder_with-rec.ensures.state (ap (λ (r : Recording). r.first) (c.recorder_with-rec.ensures.record ∙ c.in_ok-room.ensures)) in
-    let changed : c.from_changes-changes.result ≡ net_changes old.map end.state.map = c.from_changes-changes.ensures ∙ c.finish.ensures.changes ∙ ap (λ (m : EntityMap). net_changes m end.state.map) (c.perform-reply.ensures.performs.records.began ∙ start) in
-    ends-follow old.map c.args.unsaved.now c.from_changes-changes.result c.requires.leads (subst (StartsAt old.map) (sym changed) (StartsAt-net_changes old.map end.state.map))
-
-pub compose_within-requires-clause-room : goal.compose_within-requires-clause-room
-compose_within-requires-clause-room g c =
+pub join-requires : goal.join-requires
+join-requires g c =
     let K = g.K.Meaning.modelling in
     let old = c.args.store.now.state in
     let lent = c.recorder_with-rec.result.store.now in
     let end = c.perform-reply.new.rec.store.now in
     let few : length c.from_changes-changes.result ≤ K.changes lent.state.map c.args.call.now = recorded_few (K.changes lent.state.map c.args.call.now) lent end c.from_changes-changes.result c.perform-reply.ensures.performs.records (ap (λ (r : Recording). r.first) (c.recorder_with-rec.ensures.record ∙ c.in_ok-room.ensures)) (c.from_changes-changes.ensures ∙ c.finish.ensures.changes) in
     let same : K.changes lent.state.map c.args.call.now ≡ K.changes old.map c.args.call.now = ap (λ (s : Stored). K.changes s.map c.args.call.now) c.recorder_with-rec.ensures.state in
-    let most = subst (λ (o : Option ℕ). SomeIff o (c.len.result + c.in-Ok.need.changes < 2 ^ 64) (c.len.result + c.in-Ok.need.changes)) c.in_ok-most.ensures.ok_part c.checked_add.ensures in
-    omega (arith, few, same, c.in-Ok.ensures.changes, most.0, most.1, c.len.ensures.value, c.in_ok-joined.ensures.room)
-
-pub compose_within-requires-clause-fits : goal.compose_within-requires-clause-fits
-compose_within-requires-clause-fits g c =
-    let K = g.K.Meaning.modelling in
-    let old = c.args.store.now.state in
-    let lent = c.recorder_with-rec.result.store.now in
-    let end = c.perform-reply.new.rec.store.now in
-    let few : length c.from_changes-changes.result ≤ K.changes lent.state.map c.args.call.now = recorded_few (K.changes lent.state.map c.args.call.now) lent end c.from_changes-changes.result c.perform-reply.ensures.performs.records (ap (λ (r : Recording). r.first) (c.recorder_with-rec.ensures.record ∙ c.in_ok-room.ensures)) (c.from_changes-changes.ensures ∙ c.finish.ensures.changes) in
-    let same : K.changes lent.state.map c.args.call.now ≡ K.changes old.map c.args.call.now = ap (λ (s : Stored). K.changes s.map c.args.call.now) c.recorder_with-rec.ensures.state in
-    let most = subst (λ (o : Option ℕ). SomeIff o (c.len.result + c.in-Ok.need.changes < 2 ^ 64) (c.len.result + c.in-Ok.need.changes)) c.in_ok-most.ensures.ok_part c.checked_add.ensures in
-    omega (arith, few, same, c.in-Ok.ensures.changes, most.0, most.1, c.len.ensures.value, c.in_ok-joined.ensures.room)
+    omega (arith, few, same, c.in-Ok.ensures.changes, c.in_ok-reserve.ensures.room)
 
 pub returns-clause-performs : goal.returns-clause-performs
 returns-clause-performs g c =
@@ -66,5 +45,7 @@ returns-clause-unsaved g c m is =
     let end = c.perform-reply.new.rec.store.now in
     let start : began lent ≡ old.map = lent_began old lent c.recorder_with-rec.ensures.state (ap (λ (r : Recording). r.first) (c.recorder_with-rec.ensures.record ∙ c.in_ok-room.ensures)) in
     let changed : c.from_changes-changes.result ≡ net_changes old.map end.state.map = c.from_changes-changes.ensures ∙ c.finish.ensures.changes ∙ ap (λ (m : EntityMap). net_changes m end.state.map) (c.perform-reply.ensures.performs.records.began ∙ start) in
-    let joined : c.compose_within.result ≡ net_changes m end.state.map = net-joined m old.map end.state.map c.args.unsaved.now c.from_changes-changes.result c.compose_within.result is changed c.compose_within.ensures.net in
-    subst (λ (n : EntityMap). c.compose_within.result ≡ net_changes m n) (first_of (search rules, cc)) joined
+    let kept : IsUnsaved m old.map c.reserve.new.self.changes.entries = subst (IsUnsaved m old.map) (sym c.reserve.ensures.same) is in
+    let joined = c.join.ensures m old.map kept (subst (StartsAt old.map) (sym changed) (StartsAt-net_changes old.map end.state.map)) in
+    let there : after old.map c.from_changes-changes.result ≡ end.state.map = ap (after old.map) changed ∙ after-net_changes old.map end.state.map in
+    subst (λ (n : EntityMap). IsUnsaved m n c.join.new.self.changes.entries) (there ∙ first_of (search rules, cc)) joined

@@ -1,18 +1,18 @@
-use Rattle.std.proofs.Common.{◌≡◌, ℕ, List, [], ◌∷◌, ◌++◌, None, true, ap, refl, ◌∙◌, arith}
+use Rattle.std.proofs.Common.{ℕ, List, [], ◌∷◌, ◌++◌, None, true, ap, ◌∙◌}
 use Rattle.std.specs.FinMap.{empty}
 use Rattle.pk_base.specs.declared.tag.Tag.{Tag}
-use Rattle.pk_model.specs.State.{Mark, initial_mark}
+use Rattle.pk_model.specs.State.{Mark}
 use Rattle.entity_store.specs.Store.{Stored}
 use Rattle.partition.proofs.Keeping.{begun}
 use Rattle.partition.proofs.contents.Contents.begin.Goals as goal
 
 pub invariant_of-result : goal.invariant_of-result
 invariant_of-result g c =
-    begun c.args.p c.add_block.new.self.state.blocks c.push.new.self.items c.add_block.new.self.state.map c.in_ok-tree.tree.marks c.empty.result c.first_of-initial.result c.requires.last
+    begun c.args.p c.add_block.new.self.state.blocks c.push.new.self.items c.add_block.new.self.state.map c.in_ok-tree.tree.marks c.new-unsaved.result.changes.entries c.first_of-initial.result c.requires.last
     (ap (λ (s : Stored). s.blocks) c.in_ok-add_block.ensures.ok ∙ ap (λ (bs : List ℕ). bs ++ c.args.p ∷ []) c.new-store.ensures.blocks)
     (c.in_ok-push.ensures.items ∙ ap (λ (bs : List ℕ). bs ++ c.args.p ∷ []) c.new-blocks.ensures.items)
     (ap (λ (s : Stored). s.map) c.in_ok-add_block.ensures.ok ∙ c.new-store.ensures.map)
-    c.first_of-initial.ensures c.in_ok-tree.ensures.marks c.in_ok-tree.ensures.whole c.empty.ensures
+    c.first_of-initial.ensures c.in_ok-tree.ensures.marks c.in_ok-tree.ensures.whole c.new-unsaved.ensures
 
 pub returns : goal.returns
 returns g c =

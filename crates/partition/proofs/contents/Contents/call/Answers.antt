@@ -13,7 +13,6 @@ use Rattle.partition.specs.Contents.{ContentsView, state_of}
 use Rattle.partition.specs.Goes.{Made, Performs}
 use Rattle.partition.proofs.ActReach.{call_reached, state_stays}
 use Rattle.partition.proofs.Keeping.{called}
-use Rattle.partition.proofs.Unsaved.{net-ends}
 use Rattle.partition.proofs.contents.Contents.call.Goals as goal
 
 pub overflow_add-self : goal.overflow_add-self
@@ -35,13 +34,8 @@ invariant_of-self-in-Ok g c =
     let made : Made K p.store.state p.used call c.in-Ok.reply c.in-Ok.taken c.perform.new.store.state = subst performed c.in-Ok.is c.in_ok-reply.ensures.performs in
     let enough = subst (λ (s : PartitionState). K.cost s.now call ≤ length (next_tags s.blocks s.used)) (sym (ap (λ (v : ContentsView). v.state) c.self.view_is)) c.requires.enough in
     let within : p.used + c.in-Ok.taken ≤ 64 * length p.store.state.blocks = omega (arith, enough, length-next_tags p.store.state.blocks p.used, made.takes, c.self.invariant.within) in
-    called p.store.state.blocks p.blocks.items p.store.state.map p.tree.marks p.unsaved p.at p.used c.self.invariant c.perform.new.store.state.blocks c.perform.new.store.state.map c.perform.new.unsaved c.in-Ok.taken
+    called p.store.state.blocks p.blocks.items p.store.state.map p.tree.marks p.unsaved.changes.entries p.at p.used c.self.invariant c.perform.new.store.state.blocks c.perform.new.store.state.map c.perform.new.unsaved.changes.entries c.in-Ok.taken
     (ap (λ (s : Stored). s.blocks) made.store) (c.in_ok-reply.ensures.unsaved (map_of p.tree.marks p.at) c.self.invariant.net) within
-
-pub perform-requires-clause-leads : goal.perform-requires-clause-leads
-perform-requires-clause-leads g c κs within =
-    let p = c.self.inside in
-    net-ends (map_of p.tree.marks p.at) p.store.state.map p.unsaved c.self.invariant.net
 
 pub returns-in-Ok : goal.returns-in-Ok
 returns-in-Ok g c =

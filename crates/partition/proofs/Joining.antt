@@ -1,6 +1,6 @@
--- The changes since the current mark: how a call's changes join them.
-use Rattle.std.proofs.Common.{◌≡◌, ◌≢◌, ℕ, ◌<◌, ◌≤◌, true, false, Bool, cond, List, [], ◌∷◌, map, filter, length, Option, None, Some, refl, sym, ap, subst, ◌∙◌, ⊎_elim, arith}
-use Rattle.std.specs.Prelude.{Contains, IsTrue}
+-- A call's changes are no more than were put, and what a recorder begins with.
+use Rattle.std.proofs.Common.{◌≡◌, ◌≢◌, ℕ, ◌<◌, ◌≤◌, true, false, List, [], ◌∷◌, map, length, Option, refl, sym, ap, subst, ◌∙◌, ⊎_elim, arith}
+use Rattle.std.specs.Prelude.{Contains}
 use Rattle.std.specs.List.{AllByRecursion, list_any}
 use Rattle.std.specs.Ordering.{eq_by_cmp}
 use Rattle.std.proofs.lemmas.Bool.{or_cases, true≢false}
@@ -15,40 +15,14 @@ use Rattle.list_facts.proofs.Each.{ByRecursion-contains, ByRecursion-weaker}
 use Rattle.pk_model.specs.Apart.{NoRepeats}
 use Rattle.pk_model.proofs.TagLists.{same_from_tie}
 use Rattle.entity_store.specs.declared.changes.Change.{Change}
-use Rattle.entity_store.specs.Changes.{AreChanges, net_changes, tags_of_either}
+use Rattle.entity_store.specs.Changes.{net_changes, tags_of_either}
 use Rattle.entity_store.specs.Recording.{put_back}
 use Rattle.entity_store.specs.Recorder.{began, Records}
 use Rattle.entity_store.specs.Store.{Stored, StoreView}
 use Rattle.entity_store.proofs.FirstValues.{get_other}
 use Rattle.entity_store.proofs.Live.{ties_with_one}
 use Rattle.entity_store.proofs.Room.{no_more-different}
-use Rattle.entity_store.proofs.NetChanges.{AreChanges-net_changes, TagsAscend-differ, change_between, differs_at, net_changes-listed, tags_that_differ, values_from_differs}
-use Rattle.delta.specs.Deltas.{StartsAt, Follows, after, inverse, tags_in}
-use Rattle.delta.proofs.Leads.{StartsAt-net_changes, after-net_changes, StartsAt-inverse}
-
--- changes that start where others end follow them
-ends-before : (m : EntityMap) (d : Change) (cs : List Change) → get m d.tag ≡ d.before → StartsAt m (inverse cs) → AllByRecursion (λ (c : Change). c.tag ≡ d.tag → c.after ≡ d.before) cs
-ends-before m d [] h k = tt
-ends-before m d (c ∷ cs) h k = (λ e. sym k.0 ∙ ap (get m) e ∙ h, ends-before m d cs h k.1)
-
-pub ends-follow : (m : EntityMap) (cs ds : List Change) → StartsAt m (inverse cs) → StartsAt m ds → Follows cs ds
-ends-follow m cs [] h k = tt
-ends-follow m cs (d ∷ ds) h k = (ends-before m d cs k.0 h, ends-follow m cs ds h k.1)
-
--- net changes lead to where they end
-pub net-ends : (m n : EntityMap) (cs : List Change) → cs ≡ net_changes m n → StartsAt n (inverse cs)
-net-ends m n cs is =
-    let back = StartsAt-inverse m (net_changes m n) (AreChanges-net_changes m n).ascend in
-    subst (λ ds. StartsAt n (inverse ds)) (sym is) (subst (λ a. StartsAt a (inverse (net_changes m n))) (after-net_changes m n) back)
-
--- what two net changes are composed to is the net change over both
-pub net-joined : (m n o : EntityMap) (xs ys zs : List Change) → xs ≡ net_changes m n → ys ≡ net_changes n o → ((a : EntityMap) → StartsAt a xs → StartsAt (after a xs) ys → zs ≡ net_changes a (after (after a xs) ys)) → zs ≡ net_changes m o
-net-joined m n o xs ys zs e f net =
-    let leads : after m xs ≡ n = ap (after m) e ∙ after-net_changes m n in
-    let further : after (after m xs) ys ≡ o = (λ i. after (leads i) (f i)) ∙ after-net_changes n o in
-    let starts : StartsAt m xs = subst (StartsAt m) (sym e) (StartsAt-net_changes m n) in
-    let then : StartsAt (after m xs) ys = subst (λ a. StartsAt a ys) (sym leads) (subst (StartsAt n) (sym f) (StartsAt-net_changes n o)) in
-    net m starts then ∙ ap (net_changes m) further
+use Rattle.entity_store.proofs.NetChanges.{TagsAscend-differ, change_between, differs_at, net_changes-listed, tags_that_differ, values_from_differs}
 
 -- ---- how many changes were recorded
 
