@@ -19,4 +19,7 @@ pub mod KfmrhMfkrh
 pub mod Worked
 pub mod MekrKemr
 pub mod KemrMekr
+pub mod KefMef
 pub mod Read
+pub mod KvfsMvfs
+pub mod KvfsRead

@@ -25,7 +25,7 @@ use Rattle.solid_sound.proofs.shapes.FinRings.{asked_fin}
 use Rattle.solid_sound.proofs.rows.RowKeeps.{IsWell, well-shape}
 use Rattle.halfedge.specs.LinkedRings.{IsInRing, IsRing, next_at, ring_at}
 use Rattle.euler_kill.proofs.KevFound.{has-next, next-is}
-use Rattle.euler_laws.specs.Operands.{fins_between, fins_from, kept_end}
+use Rattle.euler_laws.specs.Operands.{fin_after, fins_between, fins_from, kept_end}
 use Rattle.euler_laws.proofs.KemrMekr.{IsBridge, is-bridge}
 
 -- ---- a fin that was found
@@ -45,6 +45,9 @@ module _ (m : EntityMap) (f mate edge vertex l face shell body : Tag)
 
   pub fin-linked : IsSome (next_at m f)
   fin-linked = has-next m (ring_at m f) f ring.ring ring.among
+
+  pub after-read : (next : Tag) → next_at m f ≡ Some next → next ≡ fin_after (shape_of m) f
+  after-read next is = next-is m (ring_at m f) f next ring.ring ring.among is ∙ ap (λ ts. next_in ts f) (sym ring-read)
 
   -- ---- a fin that kemr kills
 

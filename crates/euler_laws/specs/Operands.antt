@@ -1,18 +1,22 @@
 -- What the second operator is given to undo the first one: read from the shape before the first,
--- where it kills. And what the first one kills, in the order in which it is made anew.
-use Rattle.std.specs.Prelude.{List, [], ◌∷◌, drop, unwrap_or, Option, Some, None, Result, Ok, Err}
+-- where it kills. And what the first one kills, in the order in which it is made anew, or
+-- ascending.
+use Rattle.std.specs.Prelude.{not, ◌&&◌, List, [], ◌∷◌, drop, map, filter, unwrap_or, Option, Some, None, Result, Ok, Err}
 use Rattle.std.specs.Option.{option_map_or}
 use Rattle.pk_base.specs.Blocks.{tag}
+use Rattle.pk_base.specs.Entity.{same_tag}
 use Rattle.pk_base.specs.declared.tag.Tag.{Tag}
+use Rattle.pk_base.specs.declared.entity.Class.TheVariants as class
 use Rattle.pk_base.specs.declared.entity.Point.{Point}
 use Rattle.pk_base.specs.declared.entity.Triple.{Triple}
 use Rattle.pk_base.specs.declared.entity.Entity.{Entity}
 use Rattle.pk_base.specs.declared.entity.Entity.TheVariants as entity
 use Rattle.pk_base.specs.declared.refusal.Refusal.{Refusal}
-use Rattle.solid_model.specs.Items.{Item, Shape, item_at}
+use Rattle.solid_model.specs.Items.{Item, Shape, class_of_item, item_at}
 use Rattle.solid_model.specs.Items.Item.{Body, Shell, Face, Loop, Fin, Edge, Vertex, Attr}
-use Rattle.solid_model.specs.Rings.{before, first_tag, from, written_from}
-use Rattle.solid_model.specs.Owners.{owner_in}
+use Rattle.solid_model.specs.Rings.{before, first_tag, from, next_in, written_from}
+use Rattle.solid_model.specs.Owners.{body_of, owner_in, same_class}
+use Rattle.solid_model.specs.Room.{vertices_in_body}
 use Rattle.solid_model.specs.Places.{End, end_at, fins_at, mate_at, point_at, start_at}
 
 -- ---- what stands around a fin
@@ -95,3 +99,30 @@ cut_end S f t = unwrap_or (first_tag (fins_between S f)) t
 -- the edge, the fin and its mate
 abbrev pub bridge : Shape → Tag → List Tag
 bridge S f = edge_at S f ∷ f ∷ mate_at S f ∷ []
+
+-- ---- kef, and then mef
+
+-- the fin after f in its loop
+abbrev pub fin_after : Shape → Tag → Tag
+fin_after S f = next_in (fins_from S f) f
+
+-- the face of f, its loop, the edge, the fin and its mate
+abbrev pub face_and_edge : Shape → Tag → List Tag
+face_and_edge S f =
+    owner_in S (owner_in S f) ∷ owner_in S f ∷ edge_at S f ∷ f ∷ mate_at S f ∷ []
+
+-- ---- kvfs, and then mvfs
+
+-- the vertex of a body that has just one
+abbrev pub bare_vertex : Shape → Tag → Tag
+bare_vertex S b = unwrap_or (first_tag (vertices_in_body S b)) b
+
+-- the point where it stands
+abbrev pub point_of_body : Shape → Tag → Triple
+point_of_body S b = triple_of (point_at S (bare_vertex S b))
+
+-- the body and all that stands in it, but no attribute, ascending
+abbrev pub bare_body : Shape → Tag → List Tag
+bare_body S b =
+    map (λ x. x.0) (filter (λ x. not (same_class (class_of_item x.1) class.Attr)
+    && same_tag (body_of S x.0) b) S)

@@ -2,11 +2,12 @@
 //! but for names.
 ghost use Rattle.std.specs.Prelude.{◌≡◌, ◌⊎◌, [], ◌∷◌, List, OnOk, OnErr, drop, take};
 ghost use Rattle.pk_base.specs.declared.tag.Tag.{Tag};
-ghost use Rattle.pk_base.specs.declared.call.Call.TheVariants.{Kemr, Kev, Kfmrh, Mekr, Mev, Mfkrh};
+ghost use Rattle.pk_base.specs.declared.call.Call.TheVariants.{Kef, Kemr, Kev, Kfmrh, Kvfs};
+ghost use Rattle.pk_base.specs.declared.call.Call.TheVariants.{Mef, Mekr, Mev, Mfkrh, Mvfs};
 ghost use Rattle.pk_model.specs.Maps.{EntityMap};
 ghost use Rattle.pk_model.specs.Tags.{tag_at};
 ghost use Rattle.entity_store.specs.NextTags.{left};
-ghost use Rattle.solid_model.specs.Places.{outer_at};
+ghost use Rattle.solid_model.specs.Places.{mate_at, outer_at};
 ghost use Rattle.solid_model.specs.Shapes.{shape_of};
 ghost use Rattle.solid_model.specs.Sound.{IsSound};
 ghost use Rattle.euler_laws.specs.Both.{GivesBackButNames, IsBetween, IsUntouched, MayFollow};
@@ -14,15 +15,52 @@ ghost use Rattle.euler_laws.specs.Both.{MayTake, taken};
 ghost use Rattle.solid_model.specs.SameButNames.{SameButNames};
 ghost use Rattle.euler_laws.specs.Operands.{end_left as the_end_left};
 ghost use Rattle.euler_laws.specs.Operands.{point_beyond as the_point_beyond};
-ghost use Rattle.euler_laws.specs.Operands.{bridge, cut_end, loop_at_end, strut};
+ghost use Rattle.euler_laws.specs.Operands.{bare_body, bridge, cut_end, face_and_edge};
+ghost use Rattle.euler_laws.specs.Operands.{fin_after as the_fin_after, loop_at_end, strut};
 ghost use Rattle.euler_laws.specs.Operands.{kept_end as the_kept_end};
+ghost use Rattle.euler_laws.specs.Operands.{point_of_body as the_point_of_body};
 
 use crate::operator::{Operator, carry_out, nth};
-use crate::reading::{end_left, first_between, kept_end, or_ring, outer_of, point_beyond};
+use crate::reading::{
+    end_left, fin_after, first_between, kept_end, mate_of, or_ring, outer_of, point_beyond,
+    point_of_body,
+};
 use entity_store::{Steps, Store, Tags};
 use pk_base::{NoMemory, Tag};
 use std::alloc::Global;
 use std::sync::ledger::Ledger;
+
+/// Kills a body of one vertex (`kvfs`), and makes one anew (`mvfs` at the same point): the map is
+/// the same but for the names of the body, its shell, its face, its loop and its vertex.
+///
+/// Takes the five tags of `mvfs`. Without memory the map is the one before, or the one without the
+/// body.
+pub fn kvfs_mvfs<L: Ledger>(
+    alloc: Global,
+    store: &mut Store,
+    body: Tag,
+    tags: &mut Tags<'_>,
+    steps: &mut Steps<L>,
+) -> Result<(), NoMemory>
+    requires { MayTake store.old.state (Kvfs body) 5 tags.old }
+    ensures law { (m : EntityMap) (body : Tag) (tags : List Tag) → MayFollow m (Kvfs body) 5 tags
+        → GivesBackButNames m (Kvfs body) (Mvfs (the_point_of_body (shape_of m) body)) tags
+        (bare_body (shape_of m) body) (take 5 tags) }
+    ensures map { OnOk result (SameButNames
+        (bare_body (shape_of store.old.state.map) body) (take 5 (left tags.old))
+        (shape_of store.old.state.map) (shape_of store.new.state.map)) }
+    ensures blocks { store.new.state.blocks ≡ store.old.state.blocks }
+    ensures sound { IsSound store.new.state.map }
+    ensures taken { OnOk result (tags.new ≡ taken 5 tags.old) }
+    ensures err { OnErr result
+        (IsUntouched store.old.state.map tags.old store.new.state.map tags.new
+        ⊎ IsBetween store.old.state.map (Kvfs body) tags.old store.new.state.map tags.new) }
+{
+    let at = point_of_body(store, body, steps);
+    carry_out(alloc, store, Operator::Kvfs { body }, tags, steps)?;
+    carry_out(alloc, store, Operator::Mvfs { at }, tags, steps)?;
+    Ok(())
+}
 
 /// Makes an edge between two loops of one face, and kills the one that is a ring (`mekr`), and
 /// kills the edge again (`kemr` of the fin at the loop that was kept): the map is the same but for
@@ -91,6 +129,43 @@ pub fn kev_mev<L: Ledger>(
     let at = point_beyond(store, fin, steps);
     carry_out(alloc, store, Operator::Kev { fin }, tags, steps)?;
     carry_out(alloc, store, Operator::Mev { end, at }, tags, steps)?;
+    Ok(())
+}
+
+/// Kills an edge between two faces, and the face of its fin (`kef`), and makes both anew (`mef`
+/// between the fins that came after the two): the map is the same but for the names of the face,
+/// its loop, the edge and its two fins.
+///
+/// Takes the five tags of `mef`. Without memory the map is the one before, or the one without the
+/// edge.
+pub fn kef_mef<L: Ledger>(
+    alloc: Global,
+    store: &mut Store,
+    fin: Tag,
+    tags: &mut Tags<'_>,
+    steps: &mut Steps<L>,
+) -> Result<(), NoMemory>
+    requires { MayTake store.old.state (Kef fin) 5 tags.old }
+    ensures law { (m : EntityMap) (fin : Tag) (tags : List Tag) → MayFollow m (Kef fin) 5 tags
+        → GivesBackButNames m (Kef fin)
+        (Mef (the_fin_after (shape_of m) fin)
+        (the_fin_after (shape_of m) (mate_at (shape_of m) fin))) tags
+        (face_and_edge (shape_of m) fin) (take 5 tags) }
+    ensures map { OnOk result (SameButNames
+        (face_and_edge (shape_of store.old.state.map) fin) (take 5 (left tags.old))
+        (shape_of store.old.state.map) (shape_of store.new.state.map)) }
+    ensures blocks { store.new.state.blocks ≡ store.old.state.blocks }
+    ensures sound { IsSound store.new.state.map }
+    ensures taken { OnOk result (tags.new ≡ taken 5 tags.old) }
+    ensures err { OnErr result
+        (IsUntouched store.old.state.map tags.old store.new.state.map tags.new
+        ⊎ IsBetween store.old.state.map (Kef fin) tags.old store.new.state.map tags.new) }
+{
+    let mate = mate_of(store, fin, steps);
+    let from = fin_after(store, fin, steps);
+    let to = fin_after(store, mate, steps);
+    carry_out(alloc, store, Operator::Kef { fin }, tags, steps)?;
+    carry_out(alloc, store, Operator::Mef { from, to }, tags, steps)?;
     Ok(())
 }
 

@@ -2,7 +2,7 @@
 //! every sound solid, each with a call that carries both operators out.
 #![tactic(auto)]
 
-pub use anew::{kemr_mekr, kev_mev, kfmrh_mfkrh, mekr_kemr};
+pub use anew::{kef_mef, kemr_mekr, kev_mev, kfmrh_mfkrh, kvfs_mvfs, mekr_kemr};
 pub use names::{names_are_an_equivalence, worked_names};
 pub use undone::{mef_kef, mev_kev, mfkrh_kfmrh, mvfs_kvfs};
 

@@ -1,17 +1,23 @@
 //! What the second operator needs, read from the store before the first.
-ghost use Rattle.std.specs.Prelude.{◌≡◌, IsOk, option_copied, unwrap_or};
+ghost use Rattle.std.specs.Prelude.{◌≡◌, IsOk, Some, option_copied, unwrap_or};
+ghost use Rattle.std.specs.FinMap.{get};
+ghost use Rattle.pk_base.specs.declared.entity.Entity.TheVariants as entity;
+ghost use Rattle.pk_base.specs.declared.entity.Point.{Point};
+ghost use Rattle.pk_base.specs.declared.tag.Tag.{Tag};
 ghost use Rattle.solid_model.specs.Kemr.{kemr};
 ghost use Rattle.solid_model.specs.Kev.{kev};
 ghost use Rattle.solid_model.specs.Kfmrh.{kfmrh};
+ghost use Rattle.solid_model.specs.Kvfs.{kvfs};
 ghost use Rattle.solid_model.specs.Mfkrh.{mfkrh};
 ghost use Rattle.solid_model.specs.Owners.{owner_in};
-ghost use Rattle.solid_model.specs.Places.{outer_at};
+ghost use Rattle.solid_model.specs.Places.{fin_at as the_fin_at, mate_at, outer_at};
 ghost use Rattle.solid_model.specs.Rings.{first_tag};
 ghost use Rattle.solid_model.specs.Shapes.{shape_of};
 ghost use Rattle.solid_model.specs.Sound.{IsSound};
 ghost use Rattle.euler_laws.specs.Operands.{end_left as the_end_left};
 ghost use Rattle.euler_laws.specs.Operands.{point_beyond as the_point_beyond};
-ghost use Rattle.euler_laws.specs.Operands.{kept_end as the_kept_end};
+ghost use Rattle.euler_laws.specs.Operands.{fin_after as the_fin_after, kept_end as the_kept_end};
+ghost use Rattle.euler_laws.specs.Operands.{point_of_body as the_point_of_body};
 ghost use Rattle.euler_laws.specs.Operands.{fins_between, point_read, triple_of};
 
 use entity_store::{Steps, Store};
@@ -100,6 +106,30 @@ fn as_triple(point: Point) -> Triple
     }
 }
 
+/// The mate of a fin.
+pub(crate) fn mate_of<L: Ledger>(store: &Store, fin: Tag, steps: &mut Steps<L>) -> Tag
+    requires sound { IsSound store.now.state.map }
+    requires live { IsOk (the_fin_at (shape_of store.now.state.map) fin) }
+    ensures { result ≡ mate_at (shape_of store.now.state.map) fin }
+{
+    let Ok(placed) = fin_at(store, fin, steps) else {
+        unreachable!()
+    };
+    placed.mate
+}
+
+/// The fin after a fin in its loop.
+pub(crate) fn fin_after<L: Ledger>(store: &Store, fin: Tag, steps: &mut Steps<L>) -> Tag
+    requires sound { IsSound store.now.state.map }
+    requires live { IsOk (the_fin_at (shape_of store.now.state.map) fin) }
+    ensures { result ≡ the_fin_after (shape_of store.now.state.map) fin }
+{
+    let Ok(_placed) = fin_at(store, fin, steps) else {
+        unreachable!()
+    };
+    ring_next(store, fin, steps)
+}
+
 /// The end that stays in the loop where kemr kills the edge of the fin: the fin after its mate, or
 /// the loop.
 pub(crate) fn kept_end<L: Ledger>(store: &Store, fin: Tag, steps: &mut Steps<L>) -> Tag
@@ -139,4 +169,30 @@ pub(crate) fn or_ring(first: Option<Tag>, ring: Tag) -> Tag
         Some(fin) => fin,
         None => ring,
     }
+}
+
+/// The point of the one vertex of a body that kvfs does not refuse to kill.
+pub(crate) fn point_of_body<L: Ledger>(store: &Store, body: Tag, steps: &mut Steps<L>) -> Triple
+    requires sound { IsSound store.now.state.map }
+    requires goes { IsOk (kvfs (shape_of store.now.state.map) body) }
+    ensures { result ≡ the_point_of_body (shape_of store.now.state.map) body }
+{
+    let vertex = vertex_of(store, body, steps);
+    let point = point_of(store.get(vertex, steps)).unwrap();
+    as_triple(point)
+}
+
+/// A vertex of a body that has one.
+fn vertex_of<L: Ledger>(store: &Store, body: Tag, steps: &mut Steps<L>) -> Tag
+    requires { (vertex : Tag) × (point : Point)
+        × (get store.now.state.map vertex ≡ Some (entity.Vertex body point)) }
+    ensures { (point : Point) × (get store.now.state.map result ≡ Some (entity.Vertex body point)) }
+{
+    let mut walk = store.kids(body);
+    while let Some((tag, kid)) = walk.next(steps) {
+        if let Entity::Vertex { .. } = kid {
+            return tag;
+        }
+    }
+    unreachable!()
 }

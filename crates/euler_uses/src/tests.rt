@@ -10,6 +10,7 @@ use std::alloc::Global;
 use std::process::Abort;
 use std::sync::ledger::Ledger;
 
+mod answers;
 mod calls;
 mod check;
 mod dice;
@@ -17,6 +18,7 @@ mod kept;
 mod marks;
 mod operands;
 mod reading;
+mod shapes;
 mod thousand;
 mod walk;
 mod walks;
@@ -47,14 +49,14 @@ fn draw(rt: &impl Abort, partition: &mut Partition<Euler>) -> Result<(), NoMemor
     Ok(())
 }
 
-/// Does an act, for which the next block is drawn where it is short of tags.
+/// Does an act, for which blocks are drawn as long as it is short of tags.
 fn act<L: Ledger>(
     rt: &impl Abort,
     partition: &mut Partition<Euler>,
     act: Act,
     steps: &mut Steps<L>,
 ) -> Result<Reply, Fault> {
-    if partition.short(&act, steps) > 0 {
+    for _ in 0..partition.short(&act, steps) {
         draw(rt, partition)?;
     }
     assert!(rt; partition.holder().is_some());

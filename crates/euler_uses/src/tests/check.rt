@@ -1,7 +1,7 @@
 //! The ten facts of a sound solid, each read from the entities alone.
-use super::reading::{MANY_FINS, class_at, face_at, fin_at, loop_at, shell_at};
+use super::reading::{MANY_FINS, class_at, face_at, fin_at, loop_at, shell_at, shell_of};
 use entity_store::{Steps, Store};
-use pk_base::{Class, Entity, Name, Point, Tag};
+use pk_base::{Class, Counted, Entity, Name, Point, Tag};
 use std::process::Abort;
 use std::sync::ledger::Ledger;
 
@@ -249,7 +249,8 @@ fn length_from<L: Ledger>(
     None
 }
 
-fn count_fins_of(live: &[(Tag, Entity)], its_loop: Tag) -> u32 {
+/// How many fins name this loop.
+pub fn count_fins_of(live: &[(Tag, Entity)], its_loop: Tag) -> u32 {
     let mut count = 0u32;
     for (_, entity) in live {
         if let Entity::Fin { loop_, .. } = entity {
@@ -559,6 +560,19 @@ fn count_parts<L: Ledger>(solids: Solids<'_>, body: Tag, steps: &mut Steps<L>) -
         }
     }
     parts
+}
+
+/// How many parts a live body has, and its shell's q.
+pub fn counted<L: Ledger>(solids: Solids<'_>, body: Tag, steps: &mut Steps<L>) -> Option<Counted> {
+    let (_, q) = shell_of(solids.store, body, steps)?;
+    let parts = count_parts(solids, body, steps);
+    Some(Counted {
+        vertices: parts.vertices,
+        edges: parts.edges,
+        faces: parts.faces,
+        rings: parts.loops.saturating_sub(parts.faces),
+        q,
+    })
 }
 
 fn meets_formula<L: Ledger>(

@@ -40,6 +40,8 @@ pub enum Wanted {
     Of(Class),
     /// A part of this class that this one owns.
     PartOf(Class, Tag),
+    /// Anything that this one owns.
+    OwnedBy(Tag),
     /// A loop without fins.
     Bare,
     /// A loop that is not its face's outer one.
@@ -73,7 +75,8 @@ pub fn pick<L: Ledger>(
     picked
 }
 
-fn is_wanted<L: Ledger>(
+/// Whether this live entity is wanted.
+pub fn is_wanted<L: Ledger>(
     store: &Store,
     wanted: Wanted,
     tag: Tag,
@@ -84,6 +87,7 @@ fn is_wanted<L: Ledger>(
         Wanted::Any => true,
         Wanted::Of(class) => entity.class() == class,
         Wanted::PartOf(class, owner) => { entity.class() == class && entity.owner() == Some(owner) }
+        Wanted::OwnedBy(owner) => entity.owner() == Some(owner),
         Wanted::Bare => is_bare(entity),
         Wanted::Ring => is_ring(store, tag, entity, steps),
         Wanted::Strut => is_strut(entity),

@@ -60,9 +60,29 @@ pub fn go_back<L: Ledger>(
     Ok(())
 }
 
+/// Unmarks a mark, after which all that is live is as before.
+pub fn leave<L: Ledger>(
+    rt: &impl Abort,
+    alloc: Global,
+    partition: &mut Partition<Euler>,
+    kept: &Kept,
+    steps: &mut Steps<L>,
+) -> Result<(), Fail> {
+    let before = keep(alloc, partition, steps)?;
+    let reply = act(rt, partition, Act::Unmark(kept.mark), steps);
+    assert!(rt; matches!(reply, Ok(Reply::Done)));
+    let now = keep(alloc, partition, steps)?;
+    check_live(rt, &now, &before);
+    Ok(())
+}
+
 fn check_same(rt: &impl Abort, now: &Kept, kept: &Kept) {
+    assert_eq!(rt; now.mark, kept.mark);
+    check_live(rt, now, kept);
+}
+
+fn check_live(rt: &impl Abort, now: &Kept, kept: &Kept) {
     let mark = kept.mark;
-    assert_eq!(rt; now.mark, mark);
     assert_eq!(rt; now.live.len(), kept.live.len(), "live at {mark}");
     for (one, other) in now.live.iter().zip(kept.live.iter()) {
         assert_eq!(rt; one.0, other.0, "live at {mark}");

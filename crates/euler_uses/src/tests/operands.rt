@@ -3,8 +3,12 @@ use super::calls::named;
 use super::check::{Solids, body_of_loop};
 use super::dice::{Dice, Wanted, pick};
 use super::reading::{face_at, fin_at, loop_at};
+use super::shapes::{
+    draw_block, draw_delete, draw_lamina, draw_move, draw_prism, draw_sweep, draw_turn,
+};
 use entity_store::Steps;
-use pk_base::{Call, Class, Entity, Name, Tag, Triple};
+use pk_base::{Call, Class, Entity, Name, NoMemory, Tag, Triple};
+use std::alloc::Global;
 use std::sync::ledger::Ledger;
 
 /// The calls that are drawn.
@@ -21,15 +25,27 @@ pub enum Drawn {
     Kemr,
     Kfmrh,
     RingMove,
+    Lamina,
+    Block,
+    Prism,
+    Sweep,
+    Move,
+    Turn,
+    Delete,
     Set,
     Drop,
+    Ask,
+    Kids,
+    Ring,
+    Counts,
+    Bodies,
 }
 
 /// How many of these there are.
-pub const DRAWN: usize = 13;
+pub const DRAWN: usize = 25;
 
 /// Each as often as it is drawn where there are few entities.
-const GROWING: [Drawn; 21] = [
+const GROWING: [Drawn; 36] = [
     Drawn::Mvfs,
     Drawn::Mev,
     Drawn::Mev,
@@ -40,7 +56,9 @@ const GROWING: [Drawn; 21] = [
     Drawn::Mef,
     Drawn::Mef,
     Drawn::Mekr,
+    Drawn::Mekr,
     Drawn::Mfkrh,
+    Drawn::Kvfs,
     Drawn::Kvfs,
     Drawn::Kev,
     Drawn::Kef,
@@ -49,17 +67,32 @@ const GROWING: [Drawn; 21] = [
     Drawn::Kfmrh,
     Drawn::Kfmrh,
     Drawn::RingMove,
+    Drawn::Lamina,
+    Drawn::Block,
+    Drawn::Prism,
+    Drawn::Sweep,
+    Drawn::Sweep,
+    Drawn::Move,
+    Drawn::Turn,
+    Drawn::Set,
     Drawn::Set,
     Drawn::Drop,
+    Drawn::Ask,
+    Drawn::Kids,
+    Drawn::Ring,
+    Drawn::Counts,
+    Drawn::Bodies,
 ];
 
 /// Each as often as it is drawn where there are many: more that kill.
-const SHRINKING: [Drawn; 16] = [
+const SHRINKING: [Drawn; 29] = [
     Drawn::Mef,
+    Drawn::Mekr,
     Drawn::Mekr,
     Drawn::Mfkrh,
     Drawn::Mfkrh,
     Drawn::Kvfs,
+    Drawn::Kvfs,
     Drawn::Kev,
     Drawn::Kev,
     Drawn::Kev,
@@ -69,19 +102,30 @@ const SHRINKING: [Drawn; 16] = [
     Drawn::Kef,
     Drawn::Kemr,
     Drawn::RingMove,
+    Drawn::Sweep,
+    Drawn::Move,
+    Drawn::Turn,
+    Drawn::Delete,
+    Drawn::Delete,
+    Drawn::Set,
     Drawn::Drop,
     Drawn::Drop,
+    Drawn::Ask,
+    Drawn::Kids,
+    Drawn::Ring,
+    Drawn::Counts,
+    Drawn::Bodies,
 ];
 
 /// The number of entities from which on there are many.
-const MANY: usize = 180;
+const MANY: usize = 140;
 
 /// Which call comes next.
 pub fn draw(dice: &mut Dice, live: usize) -> Drawn {
     let drawn = if live < MANY {
-        GROWING.get(dice.below(21) as usize)
+        GROWING.get(dice.below(36) as usize)
     } else {
-        SHRINKING.get(dice.below(16) as usize)
+        SHRINKING.get(dice.below(29) as usize)
     };
     drawn.copied().unwrap_or(Drawn::Mvfs)
 }
@@ -90,10 +134,11 @@ pub fn draw(dice: &mut Dice, live: usize) -> Drawn {
 pub fn draw_call<L: Ledger>(
     drawn: Drawn,
     dice: &mut Dice,
+    alloc: Global,
     solids: Solids<'_>,
     steps: &mut Steps<L>,
-) -> Call {
-    match drawn {
+) -> Result<Call, NoMemory> {
+    Ok(match drawn {
         Drawn::Mvfs => draw_mvfs(dice),
         Drawn::Mev => draw_mev(dice, solids, steps),
         Drawn::Mef => draw_mef(dice, solids, steps),
@@ -105,13 +150,25 @@ pub fn draw_call<L: Ledger>(
         Drawn::Kemr => draw_kemr(dice, solids, steps),
         Drawn::Kfmrh => draw_kfmrh(dice, solids, steps),
         Drawn::RingMove => draw_ringmove(dice, solids, steps),
+        Drawn::Lamina => draw_lamina(dice, alloc)?,
+        Drawn::Block => draw_block(dice),
+        Drawn::Prism => draw_prism(dice, alloc)?,
+        Drawn::Sweep => draw_sweep(dice, solids, steps),
+        Drawn::Move => draw_move(dice, solids, steps),
+        Drawn::Turn => draw_turn(dice, solids, steps),
+        Drawn::Delete => draw_delete(dice, solids, steps),
         Drawn::Set => draw_set(dice, solids, steps),
         Drawn::Drop => draw_unset(dice, solids, steps),
-    }
+        Drawn::Ask => draw_ask(dice, solids, steps),
+        Drawn::Kids => draw_kids(dice, solids, steps),
+        Drawn::Ring => draw_ring(dice, solids, steps),
+        Drawn::Counts => draw_counts(dice, solids, steps),
+        Drawn::Bodies => Call::Bodies,
+    })
 }
 
 /// One that is wanted; now and then, or where there is none, any that is live; 1 where nothing is.
-fn operand<L: Ledger>(
+pub fn operand<L: Ledger>(
     dice: &mut Dice,
     solids: Solids<'_>,
     wanted: Wanted,
@@ -126,14 +183,14 @@ fn operand<L: Ledger>(
 }
 
 /// A coordinate; one in 64 is the first that is too great.
-fn coordinate(dice: &mut Dice) -> i64 {
+pub fn coordinate(dice: &mut Dice) -> i64 {
     if dice.below(64) == 0 {
         return 1_048_577;
     }
     dice.below(2_097_153).cast_signed() - 1_048_576
 }
 
-fn triple(dice: &mut Dice) -> Triple {
+pub fn triple(dice: &mut Dice) -> Triple {
     let x = coordinate(dice);
     let y = coordinate(dice);
     let z = coordinate(dice);
@@ -283,5 +340,42 @@ fn draw_unset<L: Ledger>(dice: &mut Dice, solids: Solids<'_>, steps: &mut Steps<
     Call::DropAttr {
         owner: tag,
         name: draw_name(dice),
+    }
+}
+
+/// One that is wanted, or any that is live; one in 16 is 1, which never is.
+fn questioned<L: Ledger>(
+    dice: &mut Dice,
+    solids: Solids<'_>,
+    wanted: Wanted,
+    steps: &mut Steps<L>,
+) -> Tag {
+    if dice.below(16) == 0 {
+        return Tag(1);
+    }
+    operand(dice, solids, wanted, steps)
+}
+
+fn draw_ask<L: Ledger>(dice: &mut Dice, solids: Solids<'_>, steps: &mut Steps<L>) -> Call {
+    Call::Ask {
+        tag: questioned(dice, solids, Wanted::Any, steps),
+    }
+}
+
+fn draw_kids<L: Ledger>(dice: &mut Dice, solids: Solids<'_>, steps: &mut Steps<L>) -> Call {
+    Call::Kids {
+        tag: questioned(dice, solids, Wanted::Any, steps),
+    }
+}
+
+fn draw_ring<L: Ledger>(dice: &mut Dice, solids: Solids<'_>, steps: &mut Steps<L>) -> Call {
+    Call::Ring {
+        ring: questioned(dice, solids, Wanted::Of(Class::Loop), steps),
+    }
+}
+
+fn draw_counts<L: Ledger>(dice: &mut Dice, solids: Solids<'_>, steps: &mut Steps<L>) -> Call {
+    Call::Counts {
+        body: questioned(dice, solids, Wanted::Of(Class::Body), steps),
     }
 }

@@ -76,6 +76,14 @@ pub fn shell_at<L: Ledger>(store: &Store, tag: Tag, steps: &mut Steps<L>) -> Opt
     Some((*body, *q))
 }
 
+/// The body and the q of the shell of the body that stands under the tag.
+pub fn shell_of<L: Ledger>(store: &Store, tag: Tag, steps: &mut Steps<L>) -> Option<(Tag, i32)> {
+    let Entity::Body { shell } = store.get(tag, steps)? else {
+        return None;
+    };
+    shell_at(store, *shell, steps)
+}
+
 /// Lists what is live, with its tags, ascending.
 pub fn read_live<L: Ledger>(
     store: &Store,
@@ -87,6 +95,15 @@ pub fn read_live<L: Ledger>(
         read_block(store, *block, live, steps)?;
     }
     Ok(())
+}
+
+/// Whether the lists are one.
+pub fn are_same(one: &[(Tag, Entity)], other: &[(Tag, Entity)]) -> bool {
+    one.len() == other.len()
+        && one
+            .iter()
+            .zip(other.iter())
+            .all(|(one, other)| one.0 == other.0 && one.1 == other.1)
 }
 
 /// Adds what is live in a block.

@@ -1,11 +1,12 @@
 //! Thousands of calls, drawn at random, after each of which the solids are sound.
 ghost use Rattle.std.specs.Prelude.{◌≡◌, ◌<◌};
 
+use super::answers::{check_answer, query_of};
 use super::check::{Solids, check};
 use super::dice::Dice;
-use super::kept::{Kept, go_back, keep, mark};
+use super::kept::{Kept, go_back, keep, leave, mark};
 use super::operands::{DRAWN, Drawn, draw, draw_call};
-use super::reading::read_live;
+use super::reading::{are_same, read_live};
 use super::{act, begin};
 use entity_store::Steps;
 use modeller::Euler;
@@ -13,22 +14,25 @@ use partition::Partition;
 use pk_base::{Act, Entity, Fault, Reply, Tag};
 use std::alloc::Global;
 use std::marker::Brand;
+use std::mem::swap;
 use std::process::Abort;
 use std::sync::ledger::{Blank, Ledger};
 use std::test::Fail;
 
 /// How many steps are done: calls, marks and gotos.
-const STEPS: u32 = 5000;
+const STEPS: u32 = 4000;
 
 /// The number of entities above which an earlier mark is gone to.
-const TOO_MANY: usize = 300;
+const TOO_MANY: usize = 240;
 
-/// Where the walk is: the numbers at random, the live entities, a copy of them for each mark, how
-/// often each call was done, and how many calls were done and refused.
+/// Where the walk is: the numbers at random, the live entities and those before the last step, a
+/// copy of them for each mark, how often each call was done, and how many calls were done and
+/// refused.
 #[derive(Drop)]
 struct Walk {
     dice: Dice,
     live: Vec<(Tag, Entity)>,
+    before: Vec<(Tag, Entity)>,
     kept: Vec<Kept>,
     each: [u32; DRAWN],
     done: u32,
@@ -38,38 +42,47 @@ struct Walk {
 /// One more such call was answered so.
 fn note(rt: &impl Abort, walk: &mut Walk, drawn: Drawn, reply: Result<Reply, Fault>) {
     match reply {
-        Ok(Reply::Made(_)) | Ok(Reply::Done) => {
+        Ok(Reply::Made(_))
+        | Ok(Reply::Done)
+        | Ok(Reply::Is(_))
+        | Ok(Reply::List(_))
+        | Ok(Reply::Counts(_)) => {
             walk.done = walk.done.saturating_add(1);
             if let Some(count) = walk.each.get_mut(drawn as usize) {
                 *count = count.saturating_add(1);
             }
         }
         Err(Fault::Refused(_)) => walk.refused = walk.refused.saturating_add(1),
-        Ok(Reply::Is(_))
-        | Ok(Reply::List(_))
-        | Ok(Reply::Counts(_))
-        | Ok(Reply::Went(_))
-        | Ok(Reply::Marks { .. })
-        | Ok(Reply::Delta(_))
-        | Err(Fault::NoMemory) => panic!(rt; "{drawn:?} has another answer"),
+        Ok(Reply::Went(_)) | Ok(Reply::Marks { .. }) | Ok(Reply::Delta(_)) | Err(Fault::NoMemory) =>
+            panic!(rt; "{drawn:?} has another answer"),
     }
 }
 
-/// Draws a call and does it.
+/// Draws a call and does it. What is asked is answered as the entities say.
 fn call<L: Ledger>(
     rt: &impl Abort,
+    alloc: Global,
     partition: &mut Partition<Euler>,
     walk: &mut Walk,
     steps: &mut Steps<L>,
-) {
+) -> Result<(), Fail> {
     let drawn = draw(&mut walk.dice, walk.live.len());
     let solids = Solids {
         store: partition.store(),
         live: walk.live.as_slice(),
     };
-    let call = draw_call(drawn, &mut walk.dice, solids, steps);
+    let call = draw_call(drawn, &mut walk.dice, alloc, solids, steps)?;
+    let query = query_of(&call);
     let reply = act(rt, partition, Act::Call(call), steps);
+    if let Some(query) = query {
+        let solids = Solids {
+            store: partition.store(),
+            live: walk.live.as_slice(),
+        };
+        check_answer(rt, solids, query, &reply, steps);
+    }
     note(rt, walk, drawn, reply);
+    Ok(())
 }
 
 /// Goes to one of the marks.
@@ -87,7 +100,25 @@ fn go<L: Ledger>(
     }
 }
 
-/// A call; now and then a mark is made, or one is gone to.
+/// Unmarks one of the marks but the initial one, which is the first that was kept. What is live is
+/// as before.
+fn unmark<L: Ledger>(
+    rt: &impl Abort,
+    alloc: Global,
+    partition: &mut Partition<Euler>,
+    walk: &mut Walk,
+    steps: &mut Steps<L>,
+) -> Result<(), Fail> {
+    let drawn = walk.dice.below(walk.kept.len() as u64) as usize;
+    let place = drawn.saturating_add(1);
+    if place < walk.kept.len() {
+        let kept = walk.kept.remove(place);
+        leave(rt, alloc, partition, &kept, steps)?;
+    }
+    Ok(())
+}
+
+/// A call; now and then a mark is made, or one is gone to, or one is unmarked.
 fn step<L: Ledger>(
     rt: &impl Abort,
     alloc: Global,
@@ -101,14 +132,17 @@ fn step<L: Ledger>(
     } else if turn == 1 {
         let kept = mark(rt, alloc, partition, steps)?;
         walk.kept.push(kept)?;
+    } else if turn == 2 && walk.dice.below(2) == 0 {
+        unmark(rt, alloc, partition, walk, steps)?;
     } else {
-        call(rt, partition, walk, steps);
+        call(rt, alloc, partition, walk, steps)?;
     }
+    swap(&mut walk.live, &mut walk.before);
     read_live(partition.store(), &mut walk.live, steps)?;
     Ok(())
 }
 
-/// The steps, each with the check of the ten facts.
+/// The steps, each with the check of the ten facts, unless nothing has changed.
 fn take_steps<L: Ledger>(
     rt: &impl Abort,
     alloc: Global,
@@ -118,11 +152,13 @@ fn take_steps<L: Ledger>(
 ) -> Result<(), Fail> {
     for at in 0..STEPS {
         step(rt, alloc, partition, walk, steps)?;
-        let solids = Solids {
-            store: partition.store(),
-            live: walk.live.as_slice(),
-        };
-        check(rt, solids, at, steps);
+        if !are_same(&walk.live, &walk.before) {
+            let solids = Solids {
+                store: partition.store(),
+                live: walk.live.as_slice(),
+            };
+            check(rt, solids, at, steps);
+        }
     }
     Ok(())
 }
@@ -151,6 +187,7 @@ fn play<L: Ledger, R: Abort>(rt: &R, alloc: Global, blank: Blank) -> Result<(), 
     let mut walk = Walk {
         dice: Dice::new(1988),
         live: Vec::new(alloc),
+        before: Vec::new(alloc),
         kept: Vec::new(alloc),
         each: [0; DRAWN],
         done: 0,
