@@ -1,3 +1,4 @@
 -- In reading order.
 pub mod PairBodies
 pub mod PairLaws
+pub mod WorkedWork
