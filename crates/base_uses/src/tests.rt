@@ -7,3 +7,4 @@ mod plane;
 mod refusals;
 mod stores;
 mod texts;
+mod trees;

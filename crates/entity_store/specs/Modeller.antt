@@ -1,5 +1,5 @@
 -- What the two calls of a modeller promise, over what the modeller means.
-use Rattle.std.specs.Prelude.{◌≡◌, ◌+◌, ◌≤◌, List, [], take, Result, Ok, Err, IsOk, IsTrue}
+use Rattle.std.specs.Prelude.{◌≡◌, ℕ, ◌+◌, ◌≤◌, List, [], take, Option, None, Some, Result, Ok, Err, IsOk, IsTrue, ⊤}
 use Rattle.std.specs.List.{AllByRecursion}
 use Rattle.pk_base.specs.Building.{Building}
 use Rattle.pk_base.specs.declared.tag.Tag.{Tag}
@@ -54,3 +54,8 @@ pub record Performs (K : Modelling) (old : StoreView) (c : Call) (tags : TagsVie
   pub state : new.state ≡ record old.state { map = outcome.map }
   pub takes : tags' ≡ record tags { used = tags.used + K.cost old.state.map c }
   pub records : Records (K.changes old.state.map c) old new
+
+-- a bound on the steps that are added, where one is named
+abbrev pub AddsAtMost : Option ℕ → ℕ → ℕ → Type 0
+AddsAtMost None before after = ⊤
+AddsAtMost (Some n) before after = after ≤ before + n

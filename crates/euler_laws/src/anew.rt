@@ -11,7 +11,7 @@ ghost use Rattle.solid_model.specs.Places.{mate_at, outer_at};
 ghost use Rattle.solid_model.specs.Shapes.{shape_of};
 ghost use Rattle.solid_model.specs.Sound.{IsSound};
 ghost use Rattle.euler_laws.specs.Both.{GivesBackButNames, IsBetween, IsUntouched, MayFollow};
-ghost use Rattle.euler_laws.specs.Both.{MayTake, taken};
+ghost use Rattle.euler_laws.specs.Both.{MayTake, map_after_both, taken};
 ghost use Rattle.solid_model.specs.SameButNames.{SameButNames};
 ghost use Rattle.euler_laws.specs.Operands.{end_left as the_end_left};
 ghost use Rattle.euler_laws.specs.Operands.{point_beyond as the_point_beyond};
@@ -49,6 +49,10 @@ pub fn kvfs_mvfs<L: Ledger>(
     ensures map { OnOk result (SameButNames
         (bare_body (shape_of store.old.state.map) body) (take 5 (left tags.old))
         (shape_of store.old.state.map) (shape_of store.new.state.map)) }
+    ensures carried { OnOk result (store.new.state.map ≡ map_after_both store.old.state.map
+        (Kvfs body)
+        (Mvfs (the_point_of_body (shape_of store.old.state.map) body))
+        (left tags.old)) }
     ensures blocks { store.new.state.blocks ≡ store.old.state.blocks }
     ensures sound { IsSound store.new.state.map }
     ensures taken { OnOk result (tags.new ≡ taken 5 tags.old) }
@@ -84,6 +88,10 @@ pub fn mekr_kemr<L: Ledger>(
     ensures map { OnOk result (SameButNames
         (loop_at_end (shape_of store.old.state.map) ring ∷ []) (tag_at (left tags.old) 3 ∷ [])
         (shape_of store.old.state.map) (shape_of store.new.state.map)) }
+    ensures carried { OnOk result (store.new.state.map ≡ map_after_both store.old.state.map
+        (Mekr keep ring)
+        (Kemr (tag_at (left tags.old) 1))
+        (left tags.old)) }
     ensures blocks { store.new.state.blocks ≡ store.old.state.blocks }
     ensures sound { IsSound store.new.state.map }
     ensures taken { OnOk result (tags.new ≡ taken 4 tags.old) }
@@ -118,6 +126,11 @@ pub fn kev_mev<L: Ledger>(
     ensures map { OnOk result (SameButNames
         (strut (shape_of store.old.state.map) fin) (take 4 (left tags.old))
         (shape_of store.old.state.map) (shape_of store.new.state.map)) }
+    ensures carried { OnOk result (store.new.state.map ≡ map_after_both store.old.state.map
+        (Kev fin)
+        (Mev (the_end_left (shape_of store.old.state.map) fin)
+        (the_point_beyond (shape_of store.old.state.map) fin))
+        (left tags.old)) }
     ensures blocks { store.new.state.blocks ≡ store.old.state.blocks }
     ensures sound { IsSound store.new.state.map }
     ensures taken { OnOk result (tags.new ≡ taken 4 tags.old) }
@@ -154,6 +167,11 @@ pub fn kef_mef<L: Ledger>(
     ensures map { OnOk result (SameButNames
         (face_and_edge (shape_of store.old.state.map) fin) (take 5 (left tags.old))
         (shape_of store.old.state.map) (shape_of store.new.state.map)) }
+    ensures carried { OnOk result (store.new.state.map ≡ map_after_both store.old.state.map
+        (Kef fin)
+        (Mef (the_fin_after (shape_of store.old.state.map) fin)
+        (the_fin_after (shape_of store.old.state.map) (mate_at (shape_of store.old.state.map) fin)))
+        (left tags.old)) }
     ensures blocks { store.new.state.blocks ≡ store.old.state.blocks }
     ensures sound { IsSound store.new.state.map }
     ensures taken { OnOk result (tags.new ≡ taken 5 tags.old) }
@@ -190,6 +208,11 @@ pub fn kemr_mekr<L: Ledger>(
     ensures map { OnOk result (SameButNames
         (bridge (shape_of store.old.state.map) fin) (drop 1 (take 4 (left tags.old)))
         (shape_of store.old.state.map) (shape_of store.new.state.map)) }
+    ensures carried { OnOk result (store.new.state.map ≡ map_after_both store.old.state.map
+        (Kemr fin)
+        (Mekr (the_kept_end (shape_of store.old.state.map) fin)
+        (cut_end (shape_of store.old.state.map) fin (tag_at (left tags.old) 0)))
+        (left tags.old)) }
     ensures blocks { store.new.state.blocks ≡ store.old.state.blocks }
     ensures sound { IsSound store.new.state.map }
     ensures taken { OnOk result (tags.new ≡ taken 4 tags.old) }
@@ -226,6 +249,10 @@ pub fn kfmrh_mfkrh<L: Ledger>(
         (kill ∷ []) (take 1 tags) }
     ensures map { OnOk result (SameButNames (kill ∷ []) (take 1 (left tags.old))
         (shape_of store.old.state.map) (shape_of store.new.state.map)) }
+    ensures carried { OnOk result (store.new.state.map ≡ map_after_both store.old.state.map
+        (Kfmrh keep kill)
+        (Mfkrh (outer_at (shape_of store.old.state.map) kill))
+        (left tags.old)) }
     ensures blocks { store.new.state.blocks ≡ store.old.state.blocks }
     ensures sound { IsSound store.new.state.map }
     ensures taken { OnOk result (tags.new ≡ taken 1 tags.old) }

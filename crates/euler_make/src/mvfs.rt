@@ -1,5 +1,5 @@
 //! The operator mvfs.
-ghost use Rattle.std.specs.Prelude.{◌≡◌, ◌≤◌, ◌∷◌, [], Some, length};
+ghost use Rattle.std.specs.Prelude.{◌≡◌, ◌+◌, ◌≤◌, ◌∷◌, [], Some, length};
 ghost use Rattle.std.specs.FinMap.{get};
 ghost use Rattle.entity_store.specs.NextTags.{left};
 ghost use Rattle.pk_base.specs.declared.call.Call.TheVariants.{Mvfs};
@@ -19,14 +19,15 @@ use std::sync::ledger::Ledger;
 /// How many entities a body of one vertex has.
 const PARTS: u64 = 5;
 
-/// What `mvfs_do` needs, or why it is refused. It takes no memory.
+/// What `mvfs_do` needs, or why it is refused. It adds no steps and takes no memory.
 pub fn mvfs_need<L: Ledger>(
     store: &Store,
     at: Triple,
     steps: &mut Steps<L>,
 ) -> Result<Need, Refusal>
     requires { IsSound store.now.state.map }
-    ensures { NeedsAsRow store.now.state.map (Mvfs at) result }
+    ensures needs { NeedsAsRow store.now.state.map (Mvfs at) result }
+    ensures cost { steps.new ≡ steps.old }
 {
     match outside(at) {
         Some(v) => Err(Refusal::OutOfRange(v)),
@@ -48,7 +49,7 @@ pub fn mvfs_need<L: Ledger>(
 /// Refuses the first of x, y and z that is outside the range of coordinates (`OutOfRange` with it).
 /// A refusal changes nothing.
 ///
-/// `Kvfs` of the body undoes it.
+/// It adds at most ten steps, two for each part. `Kvfs` of the body undoes it.
 ///
 /// Source: Mäntylä, An Introduction to Solid Modeling, 1988 (make vertex, face, solid); the form
 /// is this project's own.
@@ -66,6 +67,7 @@ pub fn mvfs_do<L: Ledger>(
     ensures takes { Takes (cost_of (row_on rec.old.store.now.state.map (Mvfs at)))
         tags.old out.old tags.new out.new }
     ensures same_store { rec.new.store.ghost_name ≡ rec.old.store.ghost_name }
+    ensures cost { steps.new ≤ steps.old + 10 }
 {
     let parts = take_parts(tags, out);
     put_parts(rec, &parts, point_of(at), steps);
@@ -106,6 +108,7 @@ fn put_parts<L: Ledger>(
     } }
     ensures puts { PutsAmong (tags_of_parts parts.now) rec.old.store.now rec.new.store.now }
     ensures same_store { rec.new.store.ghost_name ≡ rec.old.store.ghost_name }
+    ensures cost { steps.new ≤ steps.old + 10 }
 {
     let BareParts {
         body,

@@ -2,3 +2,4 @@ mod Needing
 mod PlainCalls
 mod Performing
 mod Telling
+mod StepLimits

@@ -1,7 +1,6 @@
 -- What is performed of a call, from what its own function requires and promises.
-use Rattle.std.proofs.Common.{◌≡◌, ℕ, zero, suc, ◌+◌, ◌≤◌, ⊎_elim, Bool, true, false, cond, List, [], ◌∷◌, ◌++◌, length, take, Ok, Err, refl, sym, ap, subst, ◌∙◌, arith}
-use Rattle.std.specs.Prelude.{Contains, IsOk, IsTrue}
-use Rattle.std.specs.List.{AllByRecursion}
+use Rattle.std.proofs.Common.{◌≡◌, ℕ, zero, suc, ◌+◌, ◌≤◌, ⊎_elim, List, [], ◌∷◌, ◌++◌, length, take, Ok, Err, refl, sym, ap, subst, ◌∙◌, arith}
+use Rattle.std.specs.Prelude.{Contains, IsOk}
 use Rattle.std.proofs.lemmas.List.Elements.{Contains-append_cases, Contains-append_right}
 use Rattle.pk_base.specs.Building.{Building}
 use Rattle.pk_base.specs.declared.act.Reply.{Reply}
@@ -10,11 +9,8 @@ use Rattle.pk_base.specs.declared.call.Call.{Call}
 use Rattle.pk_base.specs.declared.tag.Tag.{Tag}
 use Rattle.pk_model.specs.Maps.{EntityMap}
 use Rattle.pk_model.specs.Modelling.{Outcome}
-use Rattle.pk_model.specs.Tags.{owns}
 use Rattle.entity_store.specs.Modeller.{MayPerform, Performs}
 use Rattle.entity_store.specs.NextTags.{TagsView, left}
-use Rattle.entity_store.specs.Recorder.{Records}
-use Rattle.entity_store.specs.Recording.{room_left}
 use Rattle.entity_store.specs.Store.{StoreView}
 use Rattle.solid_model.specs.Items.{Shape}
 use Rattle.solid_model.specs.Rows.{Row, cost_of, tells}

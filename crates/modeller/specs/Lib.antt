@@ -1,4 +1,5 @@
 -- In reading order.
 pub mod Euler
+pub mod StepLimits
 pub mod Replies
 pub mod EulerLaws

@@ -1,5 +1,6 @@
 ghost use Rattle.std.specs.Prelude.{◌≡◌, ◌≤◌, [], IsOk, IsTrue, false};
 ghost use Rattle.pk_base.specs.declared.act.Reply.TheVariants.{List as Listed};
+ghost use Rattle.entity_store.specs.Modeller.{AddsAtMost};
 ghost use Rattle.entity_store.specs.NextTags.{left};
 ghost use Rattle.solid_model.specs.Euler.{list_of};
 ghost use Rattle.solid_model.specs.Rows.{cost_of, tells};
@@ -7,6 +8,7 @@ ghost use Rattle.solid_model.specs.Sound.{IsSound};
 ghost use Rattle.solid_calls.specs.Pairs.{HasDone, HasTags, MayDo, Takes, row_on};
 ghost use Rattle.modeller.specs.Euler.{euler};
 ghost use Rattle.modeller.specs.EulerLaws.{euler-IsModeller};
+ghost use Rattle.modeller.specs.StepLimits.{step_limit as the_step_limit};
 ghost use Rattle.modeller.specs.Replies.{is_told as the_call_is_told, reply_of as the_reply_of};
 
 use attributes::{drop_do, drop_need, set_do, set_need};
@@ -38,6 +40,8 @@ impl Meaning for Euler {
 }
 
 impl Modeller for Euler {
+    ghost step_limit = { the_step_limit };
+
     fn need<L: Ledger>(
         &self,
         store: &Store,
@@ -195,6 +199,7 @@ fn carry_out<L: Ledger>(
     ensures takes { Takes (cost_of (row_on rec.old.store.now.state.map call.now))
         tags.old out.old tags.new out.new }
     ensures same_store { rec.new.store.ghost_name ≡ rec.old.store.ghost_name }
+    ensures cost { AddsAtMost (the_step_limit call.now) steps.old steps.new }
 {
     match call {
         Call::Mvfs { at } => mvfs_do(rec, *at, tags, out, steps),

@@ -7,6 +7,8 @@ pub mod Named
 pub mod Ours
 pub mod Walks
 pub mod WorkSteps
+mod CallSteps
+pub mod Loads
 pub mod Going
 pub mod Removing
 pub mod Keeping

@@ -4,6 +4,7 @@ use Rattle.std.specs.FinMap.{empty}
 use Rattle.pk_base.specs.Entity.{same_tag}
 use Rattle.pk_base.specs.declared.tag.Tag.{Tag}
 use Rattle.pk_base.specs.declared.list.Lists.{Lists}
+use Rattle.pk_base.specs.declared.call.Call.{Call}
 use Rattle.pk_base.specs.declared.act.Act.{Act}
 use Rattle.pk_base.specs.declared.act.Act.TheVariants as act
 use Rattle.pk_base.specs.declared.act.Entry.{Entry}
@@ -95,12 +96,20 @@ GoesWithin s m (Ok r) before after = after ≤ before + 4 * work s m
 GoesWithin s m (Err (Refused e)) before after = after ≡ before
 GoesWithin s m (Err NoMemory) before after = after ≤ before + 4 * work s m
 
--- A mark adds at most two steps for its load, and a goto at most four for its work, and none where
--- it is refused. Of the other acts it says nothing.
-abbrev pub StepsWithin : Modelling → PartitionView → Act → Result Reply Fault → ℕ → ℕ → Type 0
-StepsWithin K v act.Mark r before after = after ≤ before + 2 * load K v.number v.journal
-StepsWithin K v (act.Goto m) r before after = GoesWithin v.state m r before after
-StepsWithin K v (act.Call c) r before after = ⊤
-StepsWithin K v (act.Unmark m) r before after = ⊤
-StepsWithin K v act.Marks r before after = ⊤
-StepsWithin K v (act.Delta m) r before after = ⊤
+-- a call of which the modeller names a bound adds at most twice as many steps, and two for each tag
+-- that it may put
+abbrev pub CallsWithin : Option ℕ → ℕ → ℕ → ℕ → Type 0
+CallsWithin None changes before after = ⊤
+CallsWithin (Some limit) changes before after = after ≤ before + 2 * (limit + changes)
+
+-- A mark adds at most two steps for its load; a goto at most four for its work, and none where it is
+-- refused; and a call what its modeller's bound gives. Of the other acts it says nothing.
+abbrev pub StepsWithin : Modelling → (Call → Option ℕ) → PartitionView → Act → Result Reply Fault
+    → ℕ → ℕ → Type 0
+StepsWithin K limit v act.Mark r before after = after ≤ before + 2 * load K v.number v.journal
+StepsWithin K limit v (act.Goto m) r before after = GoesWithin v.state m r before after
+StepsWithin K limit v (act.Call c) r before after =
+    CallsWithin (limit c) (K.changes v.state.now c) before after
+StepsWithin K limit v (act.Unmark m) r before after = ⊤
+StepsWithin K limit v act.Marks r before after = ⊤
+StepsWithin K limit v (act.Delta m) r before after = ⊤

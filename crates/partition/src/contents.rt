@@ -7,13 +7,13 @@ ghost use Rattle.pk_model.specs.Tags.{next_tags, spare_of};
 ghost use Rattle.pk_model.specs.State.{opening};
 ghost use Rattle.pk_model.specs.Modelling.{MayBeAsked};
 ghost use Rattle.pk_base.specs.declared.tag.Tag.{Tag};
-ghost use Rattle.pk_model.specs.Maps.{EntityMap};
+ghost use Rattle.pk_model.specs.Maps.{EntityMap, diff};
 ghost use Rattle.pk_model.specs.Step.{act_cost, after_deletion, live_rows};
 ghost use Rattle.entity_store.specs.Changes.{net_changes};
 ghost use Rattle.delta.specs.Deltas.{StartsAt};
 ghost use Rattle.pmark_tree.specs.Marks.{is_live, parent_in};
 ghost use Rattle.pmark_tree.specs.Maps.{map_of, whole_marks};
-ghost use Rattle.partition.specs.Work.{work};
+ghost use Rattle.partition.specs.Work.{CallsWithin, size, work};
 ghost use Rattle.partition.specs.Contents.{Does};
 ghost use Rattle.partition.specs.Unsaved.{IsUnsaved};
 
@@ -158,7 +158,11 @@ impl<K: Modeller> Contents<K> {
     ) -> Result<Result<Reply, Refusal>, NoMemory>
         requires { MayBeAsked K.modelling self.old.state.now call.now
             (next_tags self.old.state.blocks self.old.state.used) }
-        ensures { Does K.modelling self.old.state (act.Call call.now) result self.new.state }
+        ensures does { Does K.modelling self.old.state (act.Call call.now) result self.new.state }
+        ensures few { IfOk result (λ _. size (diff self.old.state.now self.new.state.now)
+            ≤ K.modelling.changes self.old.state.now call.now) }
+        ensures cost { CallsWithin (K.step_limit call.now)
+            (K.modelling.changes self.old.state.now call.now) steps.old steps.new }
     {
         match perform(
             self.alloc,

@@ -8,7 +8,7 @@ ghost use Rattle.pk_model.specs.Step.{live_rows, short};
 ghost use Rattle.pk_model.specs.Step.{blocks_short as blocks_missing};
 ghost use Rattle.pk_model.specs.Replay.{replay};
 ghost use Rattle.partition.specs.Partition.{Appends, Answers, Begins, Stays, answer_of, holder_of};
-ghost use Rattle.partition.specs.Work.{GoesWithin, StepsWithin, load, work};
+ghost use Rattle.partition.specs.Work.{CallsWithin, GoesWithin, StepsWithin, load, work};
 
 use crate::contents::Contents;
 use entity_store::{Modeller, Steps, Store};
@@ -172,11 +172,18 @@ impl<K: Modeller> Partition<K> {
     }
 
     /// Carries a call out. Where it is refused the journal has one entry more, and all else is as
-    /// it was; without memory nothing changes.
+    /// it was; without memory nothing changes. The load grows at most by the tags that the call may
+    /// put. Where the modeller bounds the steps of its two functions, the call adds at most twice as
+    /// many, and two for each of these tags.
     pub fn call<L: Ledger>(&mut self, call: Call, steps: &mut Steps<L>) -> Result<Reply, Fault>
         requires held { IsSome self.old.state.holder }
         requires enough { short K.modelling self.old.state (act.Call call) ≡ 0 }
-        ensures { Answers K.modelling self.old (act.Call call) result self.new }
+        ensures answers { Answers K.modelling self.old (act.Call call) result self.new }
+        ensures load { load K.modelling self.new.number self.new.journal
+            ≤ load K.modelling self.old.number self.old.journal
+            + K.modelling.changes self.old.state.now call }
+        ensures cost { CallsWithin (K.step_limit call)
+            (K.modelling.changes self.old.state.now call) steps.old steps.new }
     {
         let thread = self.contents.holder().unwrap();
         self.journal.reserve(2)?;
@@ -191,6 +198,7 @@ impl<K: Modeller> Partition<K> {
         requires held { IsSome self.old.state.holder }
         requires enough { 0 < spare_of self.old.state.blocks self.old.state.used }
         ensures answers { Answers K.modelling self.old act.Mark result self.new }
+        ensures anew { IfOk result (λ _. load K.modelling self.new.number self.new.journal ≡ 0) }
         ensures cost { steps.new
             ≤ steps.old + 2 * load K.modelling self.old.number self.old.journal }
     {
@@ -254,13 +262,14 @@ impl<K: Modeller> Partition<K> {
         end_act(&mut self.journal, thread, Act::Delta(m), done)
     }
 
-    /// The call that the act names, under its condition. A mark and a goto add as many steps at most
-    /// as those calls say.
+    /// The call that the act names, under its condition. It adds as many steps at most as that call
+    /// says.
     pub fn act<L: Ledger>(&mut self, act: Act, steps: &mut Steps<L>) -> Result<Reply, Fault>
         requires held { IsSome self.old.state.holder }
         requires enough { short K.modelling self.old.state act ≡ 0 }
         ensures answers { Answers K.modelling self.old act result self.new }
-        ensures cost { StepsWithin K.modelling self.old act result steps.old steps.new }
+        ensures cost { StepsWithin K.modelling K.step_limit self.old act result
+            steps.old steps.new }
     {
         match act {
             Act::Call(call) => self.call(call, steps),

@@ -1,9 +1,10 @@
-ghost use Rattle.std.specs.Prelude.{◌≡◌, ◌*◌, ◌≤◌, length};
+ghost use Rattle.std.specs.Prelude.{◌≡◌, ◌*◌, ◌≤◌, length, IfOk};
 ghost use Rattle.pk_model.specs.Tags.{next_tags};
-ghost use Rattle.pk_model.specs.Maps.{EntityMap};
+ghost use Rattle.pk_model.specs.Maps.{EntityMap, diff};
 ghost use Rattle.pk_model.specs.Modelling.{MayBeAsked};
 ghost use Rattle.partition.specs.Goes.{Performs};
 ghost use Rattle.partition.specs.Unsaved.{IsUnsaved};
+ghost use Rattle.partition.specs.Work.{CallsWithin, size};
 
 use crate::unsaved::Unsaved;
 use delta::Delta;
@@ -33,6 +34,10 @@ pub(crate) fn perform<K: Modeller, L: Ledger>(
     ensures performs { Performs K.modelling store.old.state used call.now result store.new.state }
     ensures unsaved { (m : EntityMap) → IsUnsaved m store.old.state.map unsaved.old.changes.entries
         → IsUnsaved m store.new.state.map unsaved.new.changes.entries }
+    ensures few { IfOk result (λ _. size (diff store.old.state.map store.new.state.map)
+        ≤ K.modelling.changes store.old.state.map call.now) }
+    ensures cost { CallsWithin (K.step_limit call.now)
+        (K.modelling.changes store.old.state.map call.now) steps.old steps.new }
 {
     let need = match kind.need(store, call, steps) {
         Ok(need) => need,

@@ -61,9 +61,10 @@ impl Unsaved {
     /// Adds a delta that begins where these changes end. It takes no memory.
     pub(crate) fn join<L: Ledger>(&mut self, delta: &Delta, steps: &mut Steps<L>)
         requires { length delta.now ≤ spare self.old.changes }
-        ensures { (base now : EntityMap) → IsUnsaved base now self.old.changes.entries
+        ensures joined { (base now : EntityMap) → IsUnsaved base now self.old.changes.entries
             → StartsAt now delta.now
             → IsUnsaved base (after now delta.now) self.new.changes.entries }
+        ensures cost { steps.new ≡ steps.old + length delta.now }
     {
         for i in 0..delta.len() {
             self.note(*delta.entry(i, steps));

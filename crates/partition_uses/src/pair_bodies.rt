@@ -1,4 +1,4 @@
-ghost use Rattle.std.specs.Prelude.{◌≡◌, ◌≢◌, ◌+◌, ◌≤◌, ◌++◌, [], ◌∷◌, length, take, IsTrue};
+ghost use Rattle.std.specs.Prelude.{◌≡◌, ◌≢◌, ◌+◌, ◌≤◌, ◌++◌, [], ◌∷◌, length, take, IsTrue, None};
 ghost use Rattle.std.specs.List.{AllByRecursion};
 ghost use Rattle.pk_model.specs.Tags.{owns, tag_at};
 ghost use Rattle.entity_store.specs.NextTags.{left};
@@ -23,6 +23,8 @@ impl Meaning for PairBodies {
 }
 
 impl Modeller for PairBodies {
+    ghost step_limit = { λ _. None };
+
     fn need<L: Ledger>(
         &self,
         _store: &Store,

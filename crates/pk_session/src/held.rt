@@ -4,6 +4,7 @@ ghost use Rattle.pk_base.specs.declared.act.Entry.TheVariants as entry;
 ghost use Rattle.pk_base.specs.declared.refusal.Refusal.TheVariants as refusal;
 ghost use Rattle.pk_model.specs.Step.{short};
 ghost use Rattle.partition.specs.Partition.{Appends, Answers, Stays};
+ghost use Rattle.partition.specs.Work.{StepsWithin};
 ghost use Rattle.pk_session.specs.Views.{SeatView};
 ghost use Rattle.pk_session.specs.Holding.{IsHeldBy};
 
@@ -46,12 +47,14 @@ impl<K: Modeller> Held<K> {
     }
 
     /// The call on the partition that the act names, under the partition's condition. It takes no
-    /// atomic step.
+    /// atomic step, and reads and writes no more entities than the partition's `act` may.
     pub fn act<L: Ledger>(&mut self, act: Act, steps: &mut Steps<L>) -> Result<Reply, Fault>
         requires enough { short K.modelling self.old.partition.state act ≡ 0 }
         ensures answers { Answers K.modelling self.old.partition act result self.new.partition }
         ensures session { self.new.session ≡ self.old.session }
         ensures holds { (s : SeatView) → IsHeldBy s self.old → IsHeldBy s self.new }
+        ensures cost { StepsWithin K.modelling K.step_limit self.old.partition act result
+            steps.old steps.new }
     {
         self.partition.act(act, steps)
     }

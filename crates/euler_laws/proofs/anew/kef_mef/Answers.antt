@@ -48,6 +48,15 @@ returns-clause-map g c =
     subst (λ n. SameButNames (face_and_edge (shape_of s.map) c.args.fin) (take 5 (left tags)) (shape_of s.map) (shape_of n)) (sym (reached-both s call (Mef (fin_after (shape_of s.map) c.args.fin) (fin_after (shape_of s.map) (mate_at (shape_of s.map) c.args.fin))) 5 0 5 tags c.requires cost (omega arith) (Mef c.fin_after-from.result c.fin_after-to.result) (λ i. Mef (c.fin_after-from.ensures i) ((c.fin_after-to.ensures ∙ ap (fin_after (shape_of s.map)) c.mate_of-mate.ensures) i)) c.carry_out.new.store.state c.carry_out.new.tags c.in_ok-carry_out.ensures.state c.in_ok-carry_out.ensures.tags
     c.carry_out-2.new.store.state c.in_ok-carry_out-2.ensures.state)) (kef-mef s.map c.args.fin (left tags) c.requires.may).same
 
+pub returns-clause-carried : goal.returns-clause-carried
+returns-clause-carried g c =
+    let s = c.args.store.now.state in
+    let tags = c.args.tags.now in
+    let call = Kef c.args.fin in
+    let cost : cost_on s.map call ≡ 0 = cost-changed s.map call (kef-changes (shape_of s.map) c.args.fin) in
+    reached-both s call (Mef (fin_after (shape_of s.map) c.args.fin) (fin_after (shape_of s.map) (mate_at (shape_of s.map) c.args.fin))) 5 0 5 tags c.requires cost (omega arith) (Mef c.fin_after-from.result c.fin_after-to.result) (λ i. Mef (c.fin_after-from.ensures i) ((c.fin_after-to.ensures ∙ ap (fin_after (shape_of s.map)) c.mate_of-mate.ensures) i)) c.carry_out.new.store.state c.carry_out.new.tags c.in_ok-carry_out.ensures.state c.in_ok-carry_out.ensures.tags
+    c.carry_out-2.new.store.state c.in_ok-carry_out-2.ensures.state
+
 pub returns-clause-taken : goal.returns-clause-taken
 returns-clause-taken g c =
     let s = c.args.store.now.state in

@@ -59,6 +59,16 @@ returns-clause-map g c =
     subst (λ n. SameButNames (bridge (shape_of s.map) c.args.fin) (drop 1 (take 4 (left tags))) (shape_of s.map) (shape_of n)) (sym (reached-both s call (Mekr (kept_end (shape_of s.map) c.args.fin) (cut_end (shape_of s.map) c.args.fin (tag_at (left tags) 0))) 4 1 3 tags c.requires cost (omega arith) (Mekr c.kept_end-keep.result c.or_ring-ring.result) (λ i. Mekr (c.kept_end-keep.ensures i) ((c.or_ring-ring.ensures ∙ (λ j. unwrap_or (c.first_between-between.ensures j) (cut j))) i)) c.carry_out.new.store.state c.carry_out.new.tags c.in_ok-made.ensures.state c.in_ok-made.ensures.tags
     c.carry_out-2.new.store.state c.in_ok-carry_out.ensures.state)) (kemr-mekr s.map c.args.fin (left tags) c.requires.may).same
 
+pub returns-clause-carried : goal.returns-clause-carried
+returns-clause-carried g c =
+    let s = c.args.store.now.state in
+    let tags = c.args.tags.now in
+    let call = Kemr c.args.fin in
+    let cost : cost_on s.map call ≡ 1 = cost-made 1 s.map call (kemr-makes (shape_of s.map) c.args.fin) c.requires.may.goes in
+    let cut : c.nth-cut.result ≡ tag_at (left tags) 0 = made-tag (cost_on s.map call) 1 0 (left tags) c.in_ok-made.made c.nth-cut.result c.in_ok-made.ensures.made cost (omega arith) c.nth-cut.ensures in
+    reached-both s call (Mekr (kept_end (shape_of s.map) c.args.fin) (cut_end (shape_of s.map) c.args.fin (tag_at (left tags) 0))) 4 1 3 tags c.requires cost (omega arith) (Mekr c.kept_end-keep.result c.or_ring-ring.result) (λ i. Mekr (c.kept_end-keep.ensures i) ((c.or_ring-ring.ensures ∙ (λ j. unwrap_or (c.first_between-between.ensures j) (cut j))) i)) c.carry_out.new.store.state c.carry_out.new.tags c.in_ok-made.ensures.state c.in_ok-made.ensures.tags
+    c.carry_out-2.new.store.state c.in_ok-carry_out.ensures.state
+
 pub returns-clause-taken : goal.returns-clause-taken
 returns-clause-taken g c =
     let s = c.args.store.now.state in

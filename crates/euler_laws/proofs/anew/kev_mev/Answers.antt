@@ -46,6 +46,15 @@ returns-clause-map g c =
     subst (λ n. SameButNames (strut (shape_of s.map) c.args.fin) (take 4 (left tags)) (shape_of s.map) (shape_of n)) (sym (reached-both s call (Mev (end_left (shape_of s.map) c.args.fin) (point_beyond (shape_of s.map) c.args.fin)) 4 0 4 tags c.requires cost (omega arith) (Mev c.end_left-end.result c.point_beyond-at.result) (λ i. Mev (c.end_left-end.ensures i) (c.point_beyond-at.ensures i)) c.carry_out.new.store.state c.carry_out.new.tags c.in_ok-carry_out.ensures.state c.in_ok-carry_out.ensures.tags
     c.carry_out-2.new.store.state c.in_ok-carry_out-2.ensures.state)) (kev-mev s.map c.args.fin (left tags) c.requires.may).same
 
+pub returns-clause-carried : goal.returns-clause-carried
+returns-clause-carried g c =
+    let s = c.args.store.now.state in
+    let tags = c.args.tags.now in
+    let call = Kev c.args.fin in
+    let cost : cost_on s.map call ≡ 0 = cost-changed s.map call (kev-changes (shape_of s.map) c.args.fin) in
+    reached-both s call (Mev (end_left (shape_of s.map) c.args.fin) (point_beyond (shape_of s.map) c.args.fin)) 4 0 4 tags c.requires cost (omega arith) (Mev c.end_left-end.result c.point_beyond-at.result) (λ i. Mev (c.end_left-end.ensures i) (c.point_beyond-at.ensures i)) c.carry_out.new.store.state c.carry_out.new.tags c.in_ok-carry_out.ensures.state c.in_ok-carry_out.ensures.tags
+    c.carry_out-2.new.store.state c.in_ok-carry_out-2.ensures.state
+
 pub returns-clause-taken : goal.returns-clause-taken
 returns-clause-taken g c =
     let s = c.args.store.now.state in

@@ -46,6 +46,15 @@ returns-clause-map g c =
     subst (λ n. SameButNames (c.args.kill ∷ []) (take 1 (left tags)) (shape_of s.map) (shape_of n)) (sym (reached-both s call (Mfkrh (outer_at (shape_of s.map) c.args.kill)) 1 0 1 tags c.requires cost (omega arith) (Mfkrh c.outer_of-ring.result) (ap Mfkrh c.outer_of-ring.ensures) c.carry_out.new.store.state c.carry_out.new.tags c.in_ok-carry_out.ensures.state c.in_ok-carry_out.ensures.tags
     c.carry_out-2.new.store.state c.in_ok-carry_out-2.ensures.state)) (kfmrh-mfkrh s.map c.args.keep c.args.kill (left tags) c.requires.may).same
 
+pub returns-clause-carried : goal.returns-clause-carried
+returns-clause-carried g c =
+    let s = c.args.store.now.state in
+    let tags = c.args.tags.now in
+    let call = Kfmrh c.args.keep c.args.kill in
+    let cost : cost_on s.map call ≡ 0 = cost-changed s.map call (kfmrh-changes (shape_of s.map) c.args.keep c.args.kill) in
+    reached-both s call (Mfkrh (outer_at (shape_of s.map) c.args.kill)) 1 0 1 tags c.requires cost (omega arith) (Mfkrh c.outer_of-ring.result) (ap Mfkrh c.outer_of-ring.ensures) c.carry_out.new.store.state c.carry_out.new.tags c.in_ok-carry_out.ensures.state c.in_ok-carry_out.ensures.tags
+    c.carry_out-2.new.store.state c.in_ok-carry_out-2.ensures.state
+
 pub returns-clause-taken : goal.returns-clause-taken
 returns-clause-taken g c =
     let s = c.args.store.now.state in

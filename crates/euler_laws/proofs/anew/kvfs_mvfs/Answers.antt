@@ -46,6 +46,15 @@ returns-clause-map g c =
     subst (λ n. SameButNames (bare_body (shape_of s.map) c.args.body) (take 5 (left tags)) (shape_of s.map) (shape_of n)) (sym (reached-both s call (Mvfs (point_of_body (shape_of s.map) c.args.body)) 5 0 5 tags c.requires cost (omega arith) (Mvfs c.point_of_body-at.result) (ap Mvfs c.point_of_body-at.ensures) c.carry_out.new.store.state c.carry_out.new.tags c.in_ok-carry_out.ensures.state c.in_ok-carry_out.ensures.tags
     c.carry_out-2.new.store.state c.in_ok-carry_out-2.ensures.state)) (kvfs-mvfs s.map c.args.body (left tags) c.requires.may).same
 
+pub returns-clause-carried : goal.returns-clause-carried
+returns-clause-carried g c =
+    let s = c.args.store.now.state in
+    let tags = c.args.tags.now in
+    let call = Kvfs c.args.body in
+    let cost : cost_on s.map call ≡ 0 = cost-changed s.map call (kvfs-changes (shape_of s.map) c.args.body) in
+    reached-both s call (Mvfs (point_of_body (shape_of s.map) c.args.body)) 5 0 5 tags c.requires cost (omega arith) (Mvfs c.point_of_body-at.result) (ap Mvfs c.point_of_body-at.ensures) c.carry_out.new.store.state c.carry_out.new.tags c.in_ok-carry_out.ensures.state c.in_ok-carry_out.ensures.tags
+    c.carry_out-2.new.store.state c.in_ok-carry_out-2.ensures.state
+
 pub returns-clause-taken : goal.returns-clause-taken
 returns-clause-taken g c =
     let s = c.args.store.now.state in

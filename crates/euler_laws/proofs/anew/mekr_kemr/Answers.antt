@@ -58,6 +58,16 @@ returns-clause-map g c =
     subst (λ n. SameButNames (loop_at_end (shape_of s.map) c.args.ring ∷ []) (tag_at (left tags) 3 ∷ []) (shape_of s.map) (shape_of n)) (sym (reached-both s call (Kemr (tag_at (left tags) 1)) 4 3 1 tags c.requires cost (omega arith) (Kemr c.nth-fin.result) (ap Kemr fin) c.carry_out.new.store.state c.carry_out.new.tags c.in_ok-made.ensures.state c.in_ok-made.ensures.tags
     c.carry_out-2.new.store.state c.in_ok-carry_out.ensures.state)) (mekr-kemr s.map c.args.keep c.args.ring (left tags) c.requires.may).same
 
+pub returns-clause-carried : goal.returns-clause-carried
+returns-clause-carried g c =
+    let s = c.args.store.now.state in
+    let tags = c.args.tags.now in
+    let call = Mekr c.args.keep c.args.ring in
+    let cost : cost_on s.map call ≡ 3 = cost-made 3 s.map call (mekr-makes (shape_of s.map) c.args.keep c.args.ring) c.requires.may.goes in
+    let fin : c.nth-fin.result ≡ tag_at (left tags) 1 = made-tag (cost_on s.map call) 3 1 (left tags) c.in_ok-made.made c.nth-fin.result c.in_ok-made.ensures.made cost (omega arith) c.nth-fin.ensures in
+    reached-both s call (Kemr (tag_at (left tags) 1)) 4 3 1 tags c.requires cost (omega arith) (Kemr c.nth-fin.result) (ap Kemr fin) c.carry_out.new.store.state c.carry_out.new.tags c.in_ok-made.ensures.state c.in_ok-made.ensures.tags
+    c.carry_out-2.new.store.state c.in_ok-carry_out.ensures.state
+
 pub returns-clause-taken : goal.returns-clause-taken
 returns-clause-taken g c =
     let s = c.args.store.now.state in

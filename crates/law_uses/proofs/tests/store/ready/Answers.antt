@@ -16,4 +16,4 @@ returns g c =
     let fits : tags.used + c.args.count ≤ 64 * length tags.blocks = search rules in
     let free : AllByRecursion (λ t. get s.map t ≡ None) (left tags) =
     subst (λ (t : TagsView). AllByRecursion (λ u. get s.map u ≡ None) (left t)) (c.of.ensures ∙ sym c.of-2.ensures) (c.are_free.ensures (search rules)) in
-    may-take s c.args.call.now c.args.count c.in-Ok.need tags c.requires c.in-Ok.ensures within same ascends fits free
+    may-take s c.args.call.now c.args.count c.in-Ok.need tags c.requires c.in-Ok.ensures.needs within same ascends fits free

@@ -8,6 +8,7 @@ use Rattle.solid_model.specs.Sound.{IsSound}
 use Rattle.solid_calls.specs.Pairs.{row_on}
 use Rattle.modeller.proofs.Performing.{has-room, has-tags, may-do, performs, performs-told}
 use Rattle.modeller.proofs.PlainCalls.{plain}
+use Rattle.modeller.proofs.StepLimits.{told-unbound}
 use Rattle.modeller.proofs.euler.EulerModeller.perform.Goals as goal
 
 pub carry_out-requires-clause-may : goal.carry_out-requires-clause-may
@@ -48,3 +49,6 @@ pub returns-then-is_told-clause-performs : goal.returns-then-is_told-clause-perf
 returns-then-is_told-clause-performs g c =
     let s = c.args.rec.now.store.now in
     performs-told s c.args.call.now c.args.tags.now c.args.out c.requires c.tell.result (subst (λ (v : StoreView). row_on v.state.map c.args.call.now ≡ tells c.tell.result) c.view.ensures c.tell.ensures)
+
+pub returns-then-is_told-clause-cost : goal.returns-then-is_told-clause-cost
+returns-then-is_told-clause-cost g c = told-unbound c.args.call.now (sym c.is_told.ensures ∙ c.if-is_told.true) _ _

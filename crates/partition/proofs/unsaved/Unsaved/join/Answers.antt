@@ -22,10 +22,11 @@ loop-i-preserved g c =
           let rest = untouched_behind d i x (drop (i + 1) d) c.len-i-end.ensures.changes next in
           (with_entity m x.tag x.after, c.note.ensures.net base m w.1 starts.0, StartsAt-put m (drop (i + 1) d) x.tag x.after rest starts.1, ap (after m) (sym next) ∙ w.3);
       room = omega (arith, c.loop-i.invariant.room, c.note.ensures.room);
+      cost = omega (arith, c.loop-i.invariant.cost, c.entry.ensures.cost);
     }
 
-pub returns : goal.returns
-returns g c base now h k =
+pub returns-clause-joined : goal.returns-clause-joined
+returns-clause-joined g c base now h k =
     let d = c.args.delta.now in
     let w = c.loop-i.invariant.net base now h k in
     let none = drop_all c.loop-i.i d (omega (arith, c.loop-i-test.false, c.len-i-end.ensures.value)) in

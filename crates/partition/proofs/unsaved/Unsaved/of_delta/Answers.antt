@@ -9,5 +9,5 @@ use Rattle.partition.proofs.unsaved.Unsaved.of_delta.Goals as goal
 pub returns : goal.returns
 returns g c base now is =
     let none = none_unsaved base base c.reserve.new.self.changes.entries refl (c.reserve.ensures.same ∙ c.new-unsaved.ensures) in
-    let joined = c.join.ensures base base none (subst (StartsAt base) (sym is) (StartsAt-net_changes base now)) in
+    let joined = c.join.ensures.joined base base none (subst (StartsAt base) (sym is) (StartsAt-net_changes base now)) in
     subst (λ (n : EntityMap). IsUnsaved base n c.join.new.self.changes.entries) (ap (after base) is ∙ after-net_changes base now) joined
