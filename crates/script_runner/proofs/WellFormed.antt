@@ -25,7 +25,7 @@ use Rattle.script_text.specs.declared.script.Order.{Order}
 use Rattle.script_text.specs.declared.script.Order.TheVariants.{Lock, Unlock, End, On}
 use Rattle.script_text.specs.declared.script.Script.{Script}
 use Rattle.script_text.specs.declared.script.ScriptLine.{ScriptLine}
-use Rattle.serial_run.specs.WellFormed.{IsThread, IsWellFormed, operand_count}
+use Rattle.script_thread.specs.WellFormed.{IsThread, IsWellFormed, operand_count}
 
 -- ---- what holds of the value of a reader, if it gives one
 

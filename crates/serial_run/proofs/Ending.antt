@@ -1,16 +1,16 @@
 -- Whether all threads have ended, thread by thread.
-use Rattle.std.proofs.Common.{◌≡◌, ℕ, ◌+◌, ◌-◌, ◌<◌, ◌≤◌, nat_lt, ◌&&◌, Bor, true, List, [], ◌∷◌, drop, get_or, map, length, Option, None, Some, slice_get, zero, suc, refl, sym, ap, subst, ◌∙◌, arith}
+use Rattle.std.proofs.Common.{◌≡◌, ℕ, ◌+◌, ◌-◌, ◌<◌, ◌≤◌, nat_lt, ◌&&◌, Bor, true, List, [], ◌∷◌, drop, get_or, length, Option, None, Some, slice_get, zero, suc, refl, sym, ap, subst, ◌∙◌, arith}
 use Rattle.std.proofs.Math.Seq.{drop-cons}
 use Rattle.std.proofs.Math.Numerals.{suc-eq-add-one}
 use Rattle.std.proofs.lemmas.Bool.{and_parts, leb-true, ltb-false, ltb-true}
 use Rattle.std.proofs.lemmas.List.{drop-drop, get_or_default}
-use Rattle.std.proofs.lemmas.Option.{slice_get-map, slice_get_past, slice_get_read}
+use Rattle.std.proofs.lemmas.Option.{slice_get_past, slice_get_read}
 use Rattle.std.specs.Prelude.{slice_index_or}
-use Rattle.std.specs.Option.{IfSome, is_some, option_map, option_map_or}
+use Rattle.std.specs.Option.{IfSome, is_some, option_map_or}
 use Rattle.script_text.specs.declared.script.ScriptLine.{ScriptLine}
-use Rattle.serial_run.specs.Serial.{RunState, ThreadState, lines_at}
-use Rattle.serial_run.specs.Orders.{ended_by, has_ended, have_ended, thread_state}
-use Rattle.serial_run.specs.declared.progress.Progress.{Progress}
+use Rattle.script_thread.specs.Thread.{ThreadState}
+use Rattle.serial_run.specs.Serial.{RunState, lines_at}
+use Rattle.serial_run.specs.Orders.{ended_by, has_ended, have_ended}
 use Rattle.serial_run.proofs.Threads.{thread_at-place, thread_at-within}
 use Rattle.serial_run.proofs.Idle.{NoneNext}
 
@@ -40,14 +40,14 @@ next_ended lines threads k less =
     ∙ ap (λ n. option_map_or (has_ended (get_or lines k [])) (slice_get threads k) true && have_ended (drop n lines) (drop (k + 1) threads)) (suc-eq-add-one k)
 
 -- what is found at a place of the threads tells whether the k-th has ended
-pub ended_at : (lines : List (List ScriptLine)) (threads : List Progress) (k : ℕ) (own : List ScriptLine) (found : Option (Bor Progress)) → own ≡ get_or lines k own → k < length lines → is_some found ≡ nat_lt k (length threads) → IfSome found (λ x. x.now ≡ slice_index_or threads k x.now) → ended_by own found ≡ option_map_or (has_ended (get_or lines k [])) (slice_get (map thread_state threads) k) true
+pub ended_at : (lines : List (List ScriptLine)) (threads : List ThreadState) (k : ℕ) (own : List ScriptLine) (found : Option (Bor ThreadState)) → own ≡ get_or lines k own → k < length lines → is_some found ≡ nat_lt k (length threads) → IfSome found (λ x. x.now ≡ slice_index_or threads k x.now) → ended_by own found ≡ option_map_or (has_ended (get_or lines k [])) (slice_get threads k) true
 ended_at lines threads k own None is less there at =
     let past : length threads ≤ k = ltb-false k (length threads) (sym there) in
-    sym (ap (λ o. option_map_or (has_ended (get_or lines k [])) o true) (slice_get-map thread_state threads k ∙ ap (option_map thread_state) (slice_get_past threads k past)))
+    sym (ap (λ o. option_map_or (has_ended (get_or lines k [])) o true) (slice_get_past threads k past))
 ended_at lines threads k own (Some t) is less there at =
     let within : k < length threads = ltb-true k (length threads) (sym there) in
-    ap (λ ls. has_ended ls (thread_state t.now)) (is ∙ get_or_default lines k own [] less)
-    ∙ sym (ap (λ o. option_map_or (has_ended (get_or lines k [])) o true) (slice_get-map thread_state threads k ∙ ap (option_map thread_state) (slice_get_read threads (length threads) k t.now refl within at)))
+    ap (λ ls. has_ended ls t.now) (is ∙ get_or_default lines k own [] less)
+    ∙ sym (ap (λ o. option_map_or (has_ended (get_or lines k [])) o true) (slice_get_read threads (length threads) k t.now refl within at))
 
 -- what was told to one of the threads that have ended is no less than its lines
 ended_one : (lines : List (List ScriptLine)) (threads : List ThreadState) (i : ℕ) (s : ThreadState) → have_ended lines threads ≡ true → slice_get threads i ≡ Some s → length (slice_index_or lines i []) ≤ length s.said

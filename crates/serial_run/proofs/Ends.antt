@@ -15,12 +15,14 @@ use Rattle.script_text.specs.declared.script.Script.{Script}
 use Rattle.script_text.specs.declared.script.ScriptLine.{ScriptLine}
 use Rattle.script_text.specs.declared.script.Order.{Order}
 use Rattle.script_text.specs.declared.script.Order.TheVariants.{Lock, Unlock, End, On}
-use Rattle.serial_run.specs.Serial.{Carried, RunState, ThreadState, carry, carry_lock, goes_on, line_by, line_count, lines_at, lock_by, next_line, obey, obey_by, rounds, run_begins, run_of, thread_at, told, turn, turn_by, turned_away, turns, walker_now}
-use Rattle.serial_run.specs.WellFormed.{IsWellFormed}
+use Rattle.script_thread.specs.Thread.{ThreadState, walker_now}
+use Rattle.serial_run.specs.Serial.{Carried, RunState, carry, carry_lock, goes_on, line_by, line_count, lines_at, lock_by, next_line, obey, obey_by, rounds, run_begins, run_of, thread_at, told, turn, turn_by, turned_away, turns}
+use Rattle.script_thread.specs.WellFormed.{IsWellFormed}
 use Rattle.serial_run.specs.Ends.{HasEnded, HaveEnded, IsBlocked, SomeGoesOn}
-use Rattle.serial_run.proofs.HeldLists.{held_le_greatest}
+use Rattle.script_thread.proofs.HeldLists.{held_le_greatest}
 use Rattle.serial_run.proofs.Threads.{thread_at-place, thread_at-within}
-use Rattle.serial_run.proofs.Turning.{lock_allowed, turn_cases}
+use Rattle.script_thread.proofs.Allowed.{lock_allowed}
+use Rattle.serial_run.proofs.Turning.{turn_cases}
 use Rattle.serial_run.proofs.Idle.{NoneNext, idle_rounds}
 use Rattle.serial_run.proofs.Owned.{IsRunning, IsTelling, begins_running, turns_running}
 

@@ -3,7 +3,8 @@ use Rattle.std.proofs.Common.{◌≡◌, ℕ, List, Some, None, refl, sym, ap, �
 use Rattle.std.proofs.lemmas.Option.{none-some}
 use Rattle.pk_model.specs.Modelling.{Modelling}
 use Rattle.script_text.specs.declared.script.ScriptLine.{ScriptLine}
-use Rattle.serial_run.specs.Serial.{RunState, ThreadState, lines_at, next_line, rounds, thread_at, turn, turns}
+use Rattle.script_thread.specs.Thread.{ThreadState}
+use Rattle.serial_run.specs.Serial.{RunState, lines_at, next_line, rounds, thread_at, turn, turns}
 use Rattle.serial_run.proofs.Turning.{rounds_keep, turn_cases, turns_keep}
 
 -- no thread has a next line

@@ -21,10 +21,11 @@ use Rattle.world_core.specs.Runs.{after_event}
 use Rattle.script_text.specs.Walk.{act_with_tags, refusal_of_order}
 use Rattle.script_text.specs.declared.script.Order.{Order}
 use Rattle.script_text.specs.declared.script.Order.TheVariants.{Lock, Unlock, End, On}
-use Rattle.serial_run.specs.Serial.{Carried, Drawn, ThreadState, acts, acts_by, by, carry, draws, lock_by, obey, obey_by, released, walker_now}
+use Rattle.script_thread.specs.Thread.{ThreadState, walker_now}
+use Rattle.serial_run.specs.Serial.{Carried, Drawn, acts, acts_by, by, carry, draws, lock_by, obey, obey_by, released}
 use Rattle.serial_run.specs.Reached.{IsHeldBy}
-use Rattle.serial_run.proofs.HeldLists.{held_each}
-use Rattle.serial_run.proofs.Turning.{act_allowed, lock_allowed, unlock_allowed}
+use Rattle.script_thread.proofs.HeldLists.{held_each}
+use Rattle.script_thread.proofs.Allowed.{act_allowed, lock_allowed, unlock_allowed}
 use Rattle.serial_run.proofs.Events.{DrawsDone, EventDone, act_done, claim_done, claimed, draw_done, draws_done, drew, freed, gave_up, give_up_done, one_drawn, release_done, rest_held}
 
 -- ---- what an order keeps

@@ -16,15 +16,16 @@ use Rattle.script_text.specs.Walk.{Walks, is_held, walker_of}
 use Rattle.script_text.specs.LegalReport.{EachTranscript, IsTranscript, LegalJournals, LegalReport}
 use Rattle.script_text.specs.declared.script.Script.{Script}
 use Rattle.script_text.specs.declared.script.ScriptLine.{ScriptLine}
-use Rattle.serial_run.specs.Serial.{RunState, ThreadState, line_count, lines_at, report_of, run_begins, run_of, serial, thread_at, turn, turns}
-use Rattle.serial_run.specs.WellFormed.{IsWellFormed}
+use Rattle.script_thread.specs.Thread.{ThreadState}
+use Rattle.serial_run.specs.Serial.{RunState, line_count, lines_at, report_of, run_begins, run_of, serial, thread_at, turn, turns}
+use Rattle.script_thread.specs.WellFormed.{IsWellFormed}
 use Rattle.serial_run.specs.Ends.{HaveEnded}
 use Rattle.serial_run.proofs.Turning.{rounds_keep, turns_keep}
 use Rattle.serial_run.proofs.Ends.{run_ends}
 use Rattle.serial_run.proofs.Owned.{IsOwned, IsRunning, IsTelling, begins_running, turn_running}
 use Rattle.serial_run.specs.Reached.{IsReached}
 use Rattle.serial_run.proofs.Journals.{AllFree, legal_journals}
-use Rattle.serial_run.proofs.Told.{at_rest}
+use Rattle.script_thread.specs.Walked.{at_rest}
 use Rattle.serial_run.proofs.Telling.{IsTold, Told, begins_told, turn_keeps_told}
 
 -- ---- the transcripts
@@ -36,8 +37,8 @@ all_none (suc n) = (refl, all_none n)
 -- a thread that was told all its lines has their transcript
 transcript_of : (K : Modelling) (n t : ℕ) (lines : List ScriptLine) (w : WorldState) (s : ThreadState) → Told K n t lines w s → length lines ≤ length s.said → IsTranscript K n t (journals_of w) lines s.said
 transcript_of K n t lines w s h ended = record {
-  after = at_rest n s.held h.bound;
-  walked = subst (λ ls. Walks K n t (walker_of K t (journals_of w)) ls s.said (at_rest n s.held h.bound)) (take_all (length s.said) lines ended) h.walked;
+  after = at_rest n s.held h.walked.bound;
+  walked = subst (λ ls. Walks K n t (walker_of K t (journals_of w)) ls s.said (at_rest n s.held h.walked.bound)) (take_all (length s.said) lines ended) h.walked.walked;
   all_taken = all_none n;
 }
 

@@ -1,14 +1,10 @@
-pub mod Naming
 pub mod Events
-pub mod HeldLists
 pub mod Threads
 pub mod Turning
 pub mod Idle
 pub mod Owned
 pub mod Ends
-pub mod Longer
 pub mod Walkers
-pub mod Binding
 pub mod Kept
 pub mod Told
 pub mod Journals

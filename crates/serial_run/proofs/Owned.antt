@@ -15,8 +15,9 @@ use Rattle.script_text.specs.declared.script.Script.{Script}
 use Rattle.script_text.specs.declared.script.ScriptLine.{ScriptLine}
 use Rattle.script_text.specs.declared.script.Order.{Order}
 use Rattle.script_text.specs.declared.script.Order.TheVariants.{End}
-use Rattle.serial_run.specs.Serial.{Carried, RunState, ThreadState, carry_end, fresh_thread, goes_on, lines_at, next_line, obey, rounds, run_begins, thread_at, told, turn, turns}
-use Rattle.serial_run.specs.WellFormed.{IsThread, IsWellFormed}
+use Rattle.script_thread.specs.Thread.{ThreadState, fresh_thread}
+use Rattle.serial_run.specs.Serial.{Carried, RunState, carry_end, goes_on, lines_at, next_line, obey, rounds, run_begins, thread_at, told, turn, turns}
+use Rattle.script_thread.specs.WellFormed.{IsThread, IsWellFormed}
 use Rattle.serial_run.specs.Reached.{IsHeldBy, IsReached}
 use Rattle.serial_run.specs.Ends.{HasEnded}
 use Rattle.serial_run.proofs.Threads.{goes_on-itself, goes_on-other, goes_on-threads, thread_at-replicate, thread_at-within}

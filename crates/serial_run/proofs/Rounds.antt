@@ -3,8 +3,7 @@ use Rattle.std.proofs.Common.{◌≡◌, ℕ, zero, suc, ◌+◌, ◌-◌, ◌<�
 use Rattle.std.specs.Prelude.{slice_set}
 use Rattle.std.specs.List.{range_with_len}
 use Rattle.std.specs.Option.{option_map_or}
-use Rattle.std.proofs.lemmas.List.{length-map, map-set, set-get_or}
-use Rattle.std.proofs.Math.ListN.{get_or-map}
+use Rattle.std.proofs.lemmas.List.{set-get_or}
 use Rattle.std.proofs.lemmas.Option.{get_or_from_slice_get, slice_get_read}
 use Rattle.std.proofs.lemmas.Bool.{le-leb}
 use Rattle.std.proofs.Math.Seq.{drop-cons}
@@ -16,12 +15,12 @@ use Rattle.partition.specs.Partition.{PartitionView}
 use Rattle.world_core.specs.World.{WorldPartition, WorldState, beginning}
 use Rattle.world_core.specs.Inside.{seen_as}
 use Rattle.script_text.specs.declared.script.ScriptLine.{ScriptLine}
-use Rattle.serial_run.specs.Serial.{Carried, RunState, ThreadState, fresh_thread, goes_on, line_by, line_count, lines_at, next_line, obey, rounds, run_begins, thread_at, turn, turn_by, turns}
+use Rattle.script_thread.specs.Thread.{ThreadState, fresh_thread}
+use Rattle.serial_run.specs.Serial.{Carried, RunState, goes_on, line_by, line_count, lines_at, next_line, obey, rounds, run_begins, thread_at, turn, turn_by, turns}
 use Rattle.script_text.specs.declared.script.Script.{Script}
-use Rattle.serial_run.specs.WellFormed.{IsWellFormed}
+use Rattle.script_thread.specs.WellFormed.{IsWellFormed}
 use Rattle.serial_run.specs.Reached.{IsReached}
-use Rattle.serial_run.specs.Orders.{IsCarriedOut, IsLineLeft, IsOrderLeft, run_state, thread_state}
-use Rattle.serial_run.specs.declared.progress.Progress.{Progress}
+use Rattle.serial_run.specs.Orders.{IsCarriedOut, IsLineLeft, IsOrderLeft, run_state}
 use Rattle.serial_run.proofs.Turning.{turn_reached}
 
 -- ---- a turn
@@ -48,22 +47,20 @@ line_left K r t s s' w' None is h = left_same r t s s' w' is h
 line_left K r t s s' w' (Some line) is h = carried_by r t s s' w' line.number (obey K t r.world s line.order) is h
 
 -- thread t stands at this place
-pub found_thread : (threads : List Progress) (t : ℕ) (p : Progress) → 1 ≤ t → t ≤ length threads → p ≡ get_or threads (t - 1) p → thread_at (map thread_state threads) t ≡ Some (thread_state p)
-found_thread threads t p first last at =
-    let states = map thread_state threads in
-    let within : t - 1 < length states = omega (arith, first, last, length-map threads thread_state) in
-    ap (λ b. cond b (slice_get states (t - 1)) None) (le-leb 1 t first)
-    ∙ slice_get_read states (length states) (t - 1) (thread_state p) refl within (ap thread_state at ∙ sym (get_or-map thread_state threads (t - 1) p))
+pub found_thread : (threads : List ThreadState) (t : ℕ) (s : ThreadState) → 1 ≤ t → t ≤ length threads → s ≡ get_or threads (t - 1) s → thread_at threads t ≡ Some s
+found_thread threads t s first last at =
+    let within : t - 1 < length threads = omega (arith, first, last) in
+    ap (λ b. cond b (slice_get threads (t - 1)) None) (le-leb 1 t first)
+    ∙ slice_get_read threads (length threads) (t - 1) s refl within at
 
 -- Thread t stands at this place, and its next line was carried out: that is its turn.
-pub turn_taken : (K : Modelling) (lines : List (List ScriptLine)) (w w' : WorldState) (threads : List Progress) (t : ℕ) (p p' : Progress) → 1 ≤ t → t ≤ length threads → p ≡ get_or threads (t - 1) p → IsCarriedOut K (lines_at lines t) t w (thread_state p) w' (thread_state p') → run_state w' (slice_set threads (t - 1) p') ≡ turn K lines (run_state w threads) t
-turn_taken K lines w w' threads t p p' first last at done =
+pub turn_taken : (K : Modelling) (lines : List (List ScriptLine)) (w w' : WorldState) (threads : List ThreadState) (t : ℕ) (s s' : ThreadState) → 1 ≤ t → t ≤ length threads → s ≡ get_or threads (t - 1) s → IsCarriedOut K (lines_at lines t) t w s w' s' → run_state w' (slice_set threads (t - 1) s') ≡ turn K lines (run_state w threads) t
+turn_taken K lines w w' threads t s s' first last at done =
     let r = run_state w threads in
-    let within : t - 1 < length r.threads = omega (arith, first, last, length-map threads thread_state) in
-    let found : slice_get r.threads (t - 1) ≡ Some (thread_state p) = slice_get_read r.threads (length r.threads) (t - 1) (thread_state p) refl within (ap thread_state at ∙ sym (get_or-map thread_state threads (t - 1) p)) in
-    ap (λ (ts : List ThreadState). record { world = w'; threads = ts }) (map-set thread_state threads (t - 1) p')
-    ∙ line_left K r t (thread_state p) (thread_state p') w' (next_line (lines_at lines t) (thread_state p)) found done
-    ∙ sym (ap (turn_by K lines r t) (found_thread threads t p first last at))
+    let within : t - 1 < length threads = omega (arith, first, last) in
+    let found : slice_get threads (t - 1) ≡ Some s = slice_get_read threads (length threads) (t - 1) s refl within at in
+    line_left K r t s s' w' (next_line (lines_at lines t) s) found done
+    ∙ sym (ap (turn_by K lines r t) (found_thread threads t s first last at))
 
 -- ---- rounds
 
@@ -83,10 +80,10 @@ count_next lines i own less is =
 -- ---- what the code answers
 
 -- the turn was taken, unless memory ran out
-pub turn_made : {A E : Type 0} (K : Modelling) (lines : List (List ScriptLine)) (own : List ScriptLine) (w w' : WorldState) (threads : List Progress) (t : ℕ) (p p' : Progress) (answer : Result A E) → 1 ≤ t → t ≤ length threads → p ≡ get_or threads (t - 1) p → own ≡ lines_at lines t → OnOk answer (IsCarriedOut K own t w (thread_state p) w' (thread_state p')) → OnOk answer (run_state w' (slice_set threads (t - 1) p') ≡ turn K lines (run_state w threads) t)
-turn_made K lines own w w' threads t p p' (Ok x) first last at own_is done =
-    turn_taken K lines w w' threads t p p' first last at (subst (λ ls. IsCarriedOut K ls t w (thread_state p) w' (thread_state p')) own_is done)
-turn_made K lines own w w' threads t p p' (Err e) first last at own_is done = tt
+pub turn_made : {A E : Type 0} (K : Modelling) (lines : List (List ScriptLine)) (own : List ScriptLine) (w w' : WorldState) (threads : List ThreadState) (t : ℕ) (s s' : ThreadState) (answer : Result A E) → 1 ≤ t → t ≤ length threads → s ≡ get_or threads (t - 1) s → own ≡ lines_at lines t → OnOk answer (IsCarriedOut K own t w s w' s') → OnOk answer (run_state w' (slice_set threads (t - 1) s') ≡ turn K lines (run_state w threads) t)
+turn_made K lines own w w' threads t s s' (Ok x) first last at own_is done =
+    turn_taken K lines w w' threads t s s' first last at (subst (λ ls. IsCarriedOut K ls t w s w' s') own_is done)
+turn_made K lines own w w' threads t s s' (Err e) first last at own_is done = tt
 
 -- and so the state after it is reached
 pub made_reached : {A E : Type 0} (K : Modelling) → IsModeller K → (script : Script) → IsWellFormed script → (r new : RunState) (t : ℕ) (answer : Result A E) → IsReached K script r → OnOk answer (new ≡ turn K script.threads r t) → OnOk answer (IsReached K script new)
@@ -96,7 +93,7 @@ made_reached K good script formed r new t (Err e) reached made = tt
 -- ---- the whole run
 
 -- the world and the threads at their beginning
-pub begun : (script : Script) (w : WorldState) (threads : List Progress) (all : List (List ScriptLine)) → all ≡ script.threads → w ≡ beginning script.n script.last (length all) → map thread_state threads ≡ replicate (length all) fresh_thread → run_state w threads ≡ run_begins script
+pub begun : (script : Script) (w : WorldState) (threads : List ThreadState) (all : List (List ScriptLine)) → all ≡ script.threads → w ≡ beginning script.n script.last (length all) → threads ≡ replicate (length all) fresh_thread → run_state w threads ≡ run_begins script
 begun script w threads all is world fresh =
     ap₂ (λ (v : WorldState) (ts : List ThreadState). record { world = v; threads = ts }) world fresh
     ∙ ap (λ (ls : List (List ScriptLine)). record { world = beginning script.n script.last (length ls); threads = replicate (length ls) fresh_thread }) is

@@ -14,24 +14,21 @@ use Rattle.script_text.specs.Walk.{Walks, entries_of, walker_of}
 use Rattle.script_text.specs.declared.script.Script.{Script}
 use Rattle.script_text.specs.declared.script.ScriptLine.{ScriptLine}
 use Rattle.script_text.specs.declared.report.Line.{Line}
-use Rattle.serial_run.specs.Serial.{Carried, RunState, ThreadState, fresh_thread, goes_on, lines_at, next_line, obey, run_begins, thread_at, told, turn}
+use Rattle.script_thread.specs.Thread.{ThreadState, fresh_thread}
+use Rattle.serial_run.specs.Serial.{Carried, RunState, goes_on, lines_at, next_line, obey, run_begins, thread_at, told, turn}
 use Rattle.serial_run.specs.Reached.{IsReached}
 use Rattle.serial_run.proofs.Threads.{goes_on-threads, thread_at-replicate, thread_at-within}
 use Rattle.serial_run.proofs.Turning.{turn_cases}
-use Rattle.serial_run.proofs.Longer.{walks_join}
 use Rattle.serial_run.proofs.Walkers.{walker_stays}
-use Rattle.serial_run.proofs.Binding.{Names, SameNames}
 use Rattle.serial_run.proofs.Kept.{EventsKeep, obey_keeps}
 use Rattle.serial_run.proofs.Journals.{AreEntries, entries_keep}
-use Rattle.serial_run.proofs.Told.{at_rest, order_walked}
+use Rattle.script_thread.specs.Walked.{IsWalked, at_rest}
+use Rattle.serial_run.proofs.Told.{order_walked}
 
--- The lines that thread t was told are walked over its entries in the journals of a world, which leaves it at rest, holding
--- what it holds, its names bound as they are.
+-- What thread t was told is what the first of these lines say, as many as were told, over the journals of a world.
 pub record Told (K : Modelling) (n t : ℕ) (lines : List ScriptLine) (w : WorldState) (s : ThreadState) : Type 0 where
   pub count : length s.said ≤ length lines
-  pub bound : Names
-  pub walked : Walks K n t (walker_of K t (journals_of w)) (take (length s.said) lines) s.said (at_rest n s.held bound)
-  pub same : SameNames bound s.names
+  pub walked : IsWalked K n t (journals_of w) (take (length s.said) lines) s
 
 -- each thread's lines are, and the entries are those of the script's threads
 pub record IsTold (K : Modelling) (script : Script) (r : RunState) : Type 0 where
@@ -58,9 +55,11 @@ begins_told K script = record {
       let is = sym (thread_at-replicate (length script.threads) t fresh_thread s h) in
       subst (Told K script.n t (lines_at script.threads t) (run_begins script).world) is (record {
         count = omega arith;
-        bound = [];
-        walked = λ i. record { held = []; names = []; left = sym (no_entries K t 1 script.n) i };
-        same = λ name. refl;
+        walked = record {
+          bound = [];
+          walked = λ i. record { held = []; names = []; left = sym (no_entries K t 1 script.n) i };
+          same = λ name. refl;
+        };
       });
   entries = empty_journals _ 1 script.n;
 }
@@ -98,15 +97,10 @@ module _ (K : Modelling) (good : IsModeller K) (script : Script) (r : RunState) 
         let k = length s.said in
         let one = length_push s.said line_said in
         let in' = slice_get_within lines k line next in
-        let o = order_walked K good script.n t (take k lines) s.said r.world s before.bound reached.session reached.partitions before.same before.walked line.order c (reached.held t s at) (ascends t s at) does in
-        let rest = at_rest script.n c.held o.bound in
-        let walked : Walks K script.n t (walker_of K t (journals_of c.world)) (take k lines ++ line ∷ []) new.said rest =
-        walks_join K script.n t (walker_of K t (journals_of c.world)) o.before rest (take k lines) s.said (line ∷ []) (line_said ∷ []) o.walked (refl, (rest, (o.says, refl))) in
+        let o = order_walked K good script.n t (take k lines) r.world s reached.session reached.partitions before.walked line.number line.order c (reached.held t s at) (ascends t s at) does in
         record {
           count = omega (arith, one, in');
-          bound = o.bound;
-          walked = subst (λ ls. Walks K script.n t (walker_of K t (journals_of c.world)) ls new.said rest) (sym (ap (λ m. take m lines) one ∙ lines_more lines k line next)) walked;
-          same = o.same;
+          walked = subst (λ ls. IsWalked K script.n t (journals_of c.world) ls new) (sym (ap (λ m. take m lines) one ∙ lines_more lines k line next)) o;
         }
 
     -- another thread's entries are as they were
@@ -117,15 +111,17 @@ module _ (K : Modelling) (good : IsModeller K) (script : Script) (r : RunState) 
         keeps w v e x ev h =
             let thread = ev.thread in
             ap (λ (z : WorldState). walker_of K u (journals_of z)) ev.done.after
-            ∙ walker_stays K u w (partition_of v) ev.session ev.first ev.last e x ev.done.steps (λ q. other (sym q ∙ thread))
+            ∙ walker_stays K u w (partition_of v) e x.state (λ q. other (sym q ∙ thread))
             ∙ h
 
     other_told : (u : ℕ) (x : ThreadState) → u ≢ t → Told K script.n u (lines_at script.threads u) r.world x → Told K script.n u (lines_at script.threads u) c.world x
     other_told u x other h = record {
       count = h.count;
-      bound = h.bound;
-      walked = subst (λ start. Walks K script.n u start (take (length x.said) (lines_at script.threads u)) x.said (at_rest script.n x.held h.bound)) (sym (stays_walker u other)) h.walked;
-      same = h.same;
+      walked = record {
+        bound = h.walked.bound;
+        walked = subst (λ start. Walks K script.n u start (take (length x.said) (lines_at script.threads u)) x.said (at_rest script.n x.held h.walked.bound)) (sym (stays_walker u other)) h.walked.walked;
+        same = h.walked.same;
+      };
     }
 
     goes_on_told : IsTold K script (goes_on r t s line.number c)

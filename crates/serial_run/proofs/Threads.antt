@@ -4,7 +4,8 @@ use Rattle.std.specs.Prelude.{◌≢◌, ◌⊎◌, nat_le, replicate, slice_get
 use Rattle.std.proofs.lemmas.Bool.{cases_eq, le-leb, leb-true}
 use Rattle.std.proofs.lemmas.List.{get_or-replicate, length-replicate}
 use Rattle.std.proofs.lemmas.Option.{get_or_from_slice_get, same_Some, slice_get_within, none-some}
-use Rattle.serial_run.specs.Serial.{Carried, RunState, ThreadState, goes_on, thread_at, told}
+use Rattle.script_thread.specs.Thread.{ThreadState}
+use Rattle.serial_run.specs.Serial.{Carried, RunState, goes_on, thread_at, told}
 
 -- ---- lists
 

@@ -1,9 +1,9 @@
 -- What a turn leaves: what holds between any two turns is kept.
-use Rattle.std.proofs.Common.{◌≡◌, ℕ, zero, suc, ◌-◌, ◌<◌, ◌≤◌, ⊎_elim, Bool, true, false, not, List, [], ◌∷◌, length, Option, Some, None, refl, sym, ap, subst, ◌∙◌}
-use Rattle.std.specs.Prelude.{◌≢◌, ◌==◌, nat_lt}
+use Rattle.std.proofs.Common.{◌≡◌, ℕ, zero, suc, ◌-◌, ◌≤◌, ⊎_elim, true, false, List, [], ◌∷◌, length, Option, Some, None, refl, sym, ap, subst, ◌∙◌}
+use Rattle.std.specs.Prelude.{◌≢◌, ◌==◌}
 use Rattle.std.specs.Option.{option_map_or}
 use Rattle.std.specs.List.{AllByRecursion, range_with_len}
-use Rattle.std.proofs.lemmas.Bool.{and_parts, cases_eq, eq-eqb, leb-true, ltb-false, or_left, not-false}
+use Rattle.std.proofs.lemmas.Bool.{cases_eq, eq-eqb, or_left}
 use Rattle.std.proofs.lemmas.Option.{same_Some, none-some}
 use Rattle.std.proofs.lemmas.List.{length-replicate, length-set}
 use Rattle.std.proofs.lemmas.List.FromFn.{length-map-range_with_len}
@@ -11,7 +11,6 @@ use Rattle.pk_base.specs.declared.act.Act.{Act}
 use Rattle.pk_base.specs.declared.act.Entry.TheVariants.{Claimed, Released}
 use Rattle.pk_base.specs.declared.entity.Name.{Name}
 use Rattle.pk_base.specs.declared.refusal.Refusal.{Refusal}
-use Rattle.pk_base.specs.declared.refusal.Refusal.TheVariants as refusal
 use Rattle.pk_model.specs.State.{PartitionState}
 use Rattle.pk_model.specs.Tags.{Ascends}
 use Rattle.pk_model.specs.Modelling.{Modelling, IsModeller}
@@ -21,62 +20,19 @@ use Rattle.world_core.specs.World.{WorldState, IsAsLarge, opened, partition_at}
 use Rattle.world_core.specs.Session.{IsSession}
 use Rattle.world_core.specs.Runs.{after_event}
 use Rattle.world_core.proofs.Sessions.{beginning_session}
-use Rattle.script_text.specs.Walk.{act_with_tags, greatest, is_held, is_partition, refusal_if, refusal_of_operands, refusal_of_order, tags_of_operands, with_held, ◌or_else◌}
-use Rattle.script_text.specs.declared.script.Operand.{Operand}
+use Rattle.script_text.specs.Walk.{act_with_tags, is_held, refusal_of_order, with_held}
 use Rattle.script_text.specs.declared.script.Script.{Script}
 use Rattle.script_text.specs.declared.script.ScriptLine.{ScriptLine}
 use Rattle.script_text.specs.declared.script.Order.{Order}
 use Rattle.script_text.specs.declared.script.Order.TheVariants.{Lock, Unlock, End, On}
-use Rattle.serial_run.specs.Serial.{Carried, RunState, ThreadState, acts, by, carry, carry_act, carry_claim, carry_end, carry_unlock, fresh_thread, goes_on, line_by, lines_at, lock_by, next_line, obey, obey_by, rounds, run_begins, thread_at, told, turn, turn_by, turned_away, turns, walker_now}
-use Rattle.serial_run.specs.WellFormed.{IsWellFormed}
+use Rattle.script_thread.specs.Thread.{ThreadState, fresh_thread, walker_now}
+use Rattle.serial_run.specs.Serial.{Carried, RunState, acts, by, carry, carry_act, carry_claim, carry_end, carry_unlock, goes_on, line_by, lines_at, lock_by, next_line, obey, obey_by, rounds, run_begins, thread_at, told, turn, turn_by, turned_away, turns}
+use Rattle.script_thread.specs.WellFormed.{IsWellFormed}
 use Rattle.serial_run.specs.Reached.{IsHeldBy, IsReached}
 use Rattle.serial_run.proofs.Events.{IsAsLarge-refl, acts_done, claim_done, claimed, done_alters, freed, held_after, held_before, held_still, one_holder, release_done, release_held, releases_done}
-use Rattle.serial_run.proofs.HeldLists.{Ascends-with, Ascends-without, above_greatest, all_with, all_without, held_each, is_held-with, is_held-with_itself, is_held-without}
+use Rattle.script_thread.proofs.Allowed.{act_allowed, lock_allowed, unlock_allowed}
+use Rattle.script_thread.proofs.HeldLists.{Ascends-with, Ascends-without, all_with, all_without, held_each, is_held-with, is_held-with_itself, is_held-without}
 use Rattle.serial_run.proofs.Threads.{goes_on-threads, thread_at-replicate}
-
--- ---- what is not refused
-
-no_refusal : (b : Bool) (r : Refusal) (more : Option Refusal) → (refusal_if b r or_else more) ≡ None → (b ≡ false) × (more ≡ None)
-no_refusal true r more h = absurd (none-some r (sym h))
-no_refusal false r more h = (refl, h)
-
-not_refused : (b : Bool) (r : Refusal) → refusal_if b r ≡ None → b ≡ false
-not_refused true r h = absurd (none-some r (sym h))
-not_refused false r h = refl
-
-second_none : (first more : Option Refusal) → (first or_else more) ≡ None → more ≡ None
-second_none None more h = h
-second_none (Some r) more h = absurd (none-some r (sym h))
-
--- the number is that of one of n partitions
-pub partition_within : (n p : ℕ) → not (is_partition n p) ≡ false → (1 ≤ p) × (p ≤ n)
-partition_within n p h = let parts = and_parts _ _ (not-false (is_partition n p) h) in (leb-true 1 p parts.0, leb-true p n parts.1)
-
--- A lock that is not refused is of one of n partitions, above all that the thread holds.
-pub record LockAllowed (n : ℕ) (held : List ℕ) (p : ℕ) : Type 0 where
-  pub within : (1 ≤ p) × (p ≤ n)
-  pub above : greatest held < p
-
-pub lock_allowed : (n : ℕ) (s : ThreadState) (p : ℕ) → refusal_of_order n (walker_now s) (Lock p) ≡ None → LockAllowed n s.held p
-lock_allowed n s p h =
-    let a = no_refusal (not (is_partition n p)) (refusal.NoPartition p) (refusal_if (is_held s.held p) (refusal.AlreadyLocked p) or_else refusal_if (nat_lt p (greatest s.held)) (refusal.LockOrder (greatest s.held))) h in
-    let b = no_refusal (is_held s.held p) (refusal.AlreadyLocked p) (refusal_if (nat_lt p (greatest s.held)) (refusal.LockOrder (greatest s.held))) a.1 in
-    let within = partition_within n p a.0 in
-    let most : greatest s.held ≤ p = ltb-false p (greatest s.held) (not_refused (nat_lt p (greatest s.held)) (refusal.LockOrder (greatest s.held)) b.1) in
-    record { within = within; above = above_greatest s.held p within.0 b.0 most }
-
--- an unlock that is not refused is of a partition that the thread holds
-pub unlock_allowed : (n : ℕ) (s : ThreadState) (p : ℕ) → refusal_of_order n (walker_now s) (Unlock p) ≡ None → is_held s.held p ≡ true
-unlock_allowed n s p h =
-    let a = no_refusal (not (is_partition n p)) (refusal.NoPartition p) (refusal_if (not (is_held s.held p)) (refusal.NotLocked p)) h in
-    not-false (is_held s.held p) (not_refused (not (is_held s.held p)) (refusal.NotLocked p) a.1)
-
--- and so is an act
-pub act_allowed : (n : ℕ) (s : ThreadState) (p : ℕ) (a : Act) (operands : List Operand) (bind : Option Name) → refusal_of_order n (walker_now s) (On p a operands bind) ≡ None → is_held s.held p ≡ true
-act_allowed n s p a operands bind h =
-    let more = refusal_if (not (is_partition n p)) (refusal.NoPartition p) or_else refusal_if (not (is_held s.held p)) (refusal.NotLocked p) in
-    let b = no_refusal (not (is_partition n p)) (refusal.NoPartition p) (refusal_if (not (is_held s.held p)) (refusal.NotLocked p)) (second_none (refusal_of_operands (tags_of_operands s.names 1 operands)) more h) in
-    not-false (is_held s.held p) (not_refused (not (is_held s.held p)) (refusal.NotLocked p) b.1)
 
 -- ---- an order
 

@@ -4,7 +4,8 @@ use Rattle.world_core.specs.World.{WorldState, partition_at}
 use Rattle.script_text.specs.Walk.{refusal_of_order}
 use Rattle.script_text.specs.declared.script.ScriptLine.{ScriptLine}
 use Rattle.script_text.specs.declared.script.Order.TheVariants.{Lock}
-use Rattle.serial_run.specs.Serial.{RunState, ThreadState, lines_at, next_line, thread_at, walker_now}
+use Rattle.script_thread.specs.Thread.{ThreadState, walker_now}
+use Rattle.serial_run.specs.Serial.{RunState, lines_at, next_line, thread_at}
 
 -- the thread was told all its lines
 abbrev pub HasEnded : List ScriptLine → ThreadState → Type 0

@@ -1,5 +1,5 @@
 -- The words of the clauses on orders.
-use Rattle.std.specs.Prelude.{Bool, true, ◌&&◌, nat_le, ◌≡◌, ℕ, ◌≤◌, length, List, [], ◌∷◌, map, Option, None, Some, Result, Ok, Err, ⊤}
+use Rattle.std.specs.Prelude.{Bool, true, ◌&&◌, nat_le, ◌≡◌, ℕ, ◌≤◌, length, List, [], ◌∷◌, Option, None, Some, Result, Ok, Err, ⊤}
 use Rattle.std.specs.Borrow.{Bor}
 use Rattle.std.specs.Option.{option_map_or}
 use Rattle.pk_base.specs.declared.act.Reply.{Reply}
@@ -10,11 +10,11 @@ use Rattle.script_text.specs.declared.report.LineSaid.{LineSaid}
 use Rattle.script_text.specs.declared.report.LineSaid.TheVariants.{Refused}
 use Rattle.pk_model.specs.Modelling.{Modelling}
 use Rattle.script_text.specs.declared.script.ScriptLine.{ScriptLine}
-use Rattle.serial_run.specs.Serial.{Acted, Carried, ThreadState, RunState, next_line, obey, told}
-use Rattle.serial_run.specs.WellFormed.{operand_count}
+use Rattle.script_thread.specs.Thread.{ThreadState}
+use Rattle.serial_run.specs.Serial.{Acted, Carried, RunState, next_line, obey, told}
+use Rattle.script_thread.specs.WellFormed.{operand_count}
 use Rattle.serial_run.specs.Reached.{IsThreadOf}
-use Rattle.serial_run.specs.declared.progress.Progress.{Progress}
-use Rattle.serial_run.specs.declared.progress.Turn.{Turn}
+use Rattle.serial_run.specs.declared.orders.Turn.{Turn}
 
 -- the act was done so: this is the world after it, and this was answered
 abbrev pub IsDone : Acted → Result Reply Fault → WorldState → Type 0
@@ -22,16 +22,12 @@ IsDone done (Ok r) new = done ≡ record { world = new; answer = Ok r }
 IsDone done (Err (fault.Refused e)) new = done ≡ record { world = new; answer = Err e }
 IsDone done (Err fault.NoMemory) new = ⊤
 
--- a thread, as far as it is
-abbrev pub thread_state : Progress → ThreadState
-thread_state p = record { held = p.held; names = p.names; said = p.said.items }
-
-abbrev pub run_state : WorldState → List Progress → RunState
-run_state w threads = record { world = w; threads = map thread_state threads }
+abbrev pub run_state : WorldState → List ThreadState → RunState
+run_state w threads = record { world = w; threads = threads }
 
 -- the turn is of a thread of this world, which has so many partitions, at most 32
 pub record IsTurnIn (w : WorldState) (turn : Turn) : Type 0 where
-  pub thread : IsThreadOf w turn.thread
+  pub thread : IsThreadOf w turn.number
   pub partitions : length w.partitions ≡ turn.partitions
   pub few : turn.partitions ≤ 32
 
@@ -78,6 +74,6 @@ have_ended (own ∷ more) [] = true
 have_ended (own ∷ more) (s ∷ threads) = has_ended own s && have_ended more threads
 
 -- whether a thread, if there is one, has been told all these lines of its own
-abbrev pub ended_by : List ScriptLine → Option (Bor Progress) → Bool
+abbrev pub ended_by : List ScriptLine → Option (Bor ThreadState) → Bool
 ended_by own thread =
-    option_map_or (λ (t : Bor Progress). has_ended own (thread_state t.now)) thread true
+    option_map_or (λ (t : Bor ThreadState). has_ended own t.now) thread true

@@ -5,7 +5,8 @@ use Rattle.pk_model.specs.Modelling.{Modelling}
 use Rattle.world_core.specs.World.{WorldState, partition_at}
 use Rattle.world_core.specs.Session.{IsSession}
 use Rattle.script_text.specs.declared.script.Script.{Script}
-use Rattle.serial_run.specs.Serial.{RunState, ThreadState, thread_at}
+use Rattle.script_thread.specs.Thread.{ThreadState}
+use Rattle.serial_run.specs.Serial.{RunState, thread_at}
 
 -- the world has a thread t
 abbrev pub IsThreadOf : WorldState → ℕ → Type 0

@@ -1,10 +1,9 @@
 -- The run of a script by one thread: its threads take turns, each of which carries one line out in
 -- the world.
-use Rattle.std.specs.Prelude.{ℕ, zero, suc, ◌-◌, nat_le, if◌then◌else◌, List, [], ◌∷◌, ◌++◌, map, length, slice_get, replicate, slice_index_or, slice_set, Option, None, Some, Result, Ok, Err}
+use Rattle.std.specs.Prelude.{ℕ, zero, suc, ◌-◌, nat_le, if◌then◌else◌, List, [], ◌∷◌, ◌++◌, map, length, slice_get, replicate, slice_index_or, slice_set, Option, None, Some, Result, Err}
 use Rattle.std.specs.List.{range_with_len, sum_by}
 use Rattle.std.specs.Option.{option_map_or}
 use Rattle.std.specs.Result.{result_map_both}
-use Rattle.pk_base.specs.Entity.{same_name}
 use Rattle.pk_base.specs.declared.tag.Tag.{Tag}
 use Rattle.pk_base.specs.declared.entity.Name.{Name}
 use Rattle.pk_base.specs.declared.act.Act.{Act}
@@ -19,46 +18,20 @@ use Rattle.world_core.specs.declared.event.Event.TheVariants as event
 use Rattle.world_core.specs.World.{WorldState, beginning, partition_at}
 use Rattle.world_core.specs.Runs.{ThreadEvent, after_event}
 use Rattle.world_core.specs.Session.{journals_of}
-use Rattle.script_text.specs.Walk.{Walker, act_with_tags, list_of, refusal_of_order, said_of, with_held, without_held}
+use Rattle.script_text.specs.Walk.{act_with_tags, refusal_of_order, said_of, with_held, without_held}
 use Rattle.script_text.specs.declared.script.Script.{Script}
 use Rattle.script_text.specs.declared.script.ScriptLine.{ScriptLine}
 use Rattle.script_text.specs.declared.script.Order.{Order}
 use Rattle.script_text.specs.declared.script.Order.TheVariants.{Lock, Unlock, End, On}
 use Rattle.script_text.specs.declared.report.Report.{Report}
-use Rattle.script_text.specs.declared.report.Line.{Line}
 use Rattle.script_text.specs.declared.report.LineSaid.{LineSaid}
 use Rattle.script_text.specs.declared.report.LineSaid.TheVariants.{Locked, Unlocked, Ended, Refused}
-
--- ---- threads
-
--- A thread between two of its lines: the partitions that it holds, ascending; what its names are
--- bound to; and what was said to the lines before. Its next line is the one behind those.
-pub record ThreadState : Type 0 where
-  pub held : List ℕ
-  pub names : List (Name × List Tag)
-  pub said : List Line
+use Rattle.script_thread.specs.Thread.{ThreadState, fresh_thread, names_after, walker_now}
 
 -- the world, and the threads 1, 2 and so on
 pub record RunState : Type 0 where
   pub world : WorldState
   pub threads : List ThreadState
-
--- as what its next order is resolved
-abbrev pub walker_now : ThreadState → Walker
-walker_now s = record { held = s.held; names = s.names; left = [] }
-
--- the name is bound to the tags, in its place where it stood, and else behind the others
-abbrev pub bind_tags : List (Name × List Tag) → Name → List Tag → List (Name × List Tag)
-bind_tags [] name tags = (name, tags) ∷ []
-bind_tags (b ∷ bs) name tags =
-    if same_name name b.0 then (b.0, tags) ∷ bs else b ∷ bind_tags bs name tags
-
--- the names after an answer, to whose list the name behind `as` is bound, where there are both
-abbrev pub names_after : Result Reply Refusal → Option Name → List (Name × List Tag)
-    → List (Name × List Tag)
-names_after (Err e) bind names = names
-names_after (Ok r) None names = names
-names_after (Ok r) (Some name) names = option_map_or (bind_tags names name) (list_of r) names
 
 -- ---- an act
 
@@ -243,10 +216,6 @@ rounds K lines r zero = r
 rounds K lines r (suc k) = rounds K lines (turns K lines r (range_with_len 1 (length lines))) k
 
 -- ---- a script
-
--- a thread before its first line
-abbrev pub fresh_thread : ThreadState
-fresh_thread = record { held = []; names = []; said = [] }
 
 -- the world and the threads before the first turn
 abbrev pub run_begins : Script → RunState

@@ -3,8 +3,9 @@ ghost use Rattle.std.specs.Prelude.{◌≡◌, ℕ, List, Some};
 ghost use Rattle.pk_model.specs.Modelling.{IsModeller};
 ghost use Rattle.script_text.specs.declared.script.Script.{Script};
 ghost use Rattle.script_text.specs.declared.script.ScriptLine.{ScriptLine};
-ghost use Rattle.serial_run.specs.Serial.{RunState, ThreadState, lines_at, run_begins, run_of, thread_at, turn, turns};
-ghost use Rattle.serial_run.specs.WellFormed.{IsWellFormed};
+ghost use Rattle.script_thread.specs.Thread.{ThreadState};
+ghost use Rattle.serial_run.specs.Serial.{RunState, lines_at, run_begins, run_of, thread_at, turn, turns};
+ghost use Rattle.script_thread.specs.WellFormed.{IsWellFormed};
 ghost use Rattle.serial_run.specs.Ends.{HasEnded, HaveEnded, SomeGoesOn};
 
 use pk_model::Meaning;

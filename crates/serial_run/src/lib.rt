@@ -5,8 +5,6 @@ pub use laws::{every_script_ends, some_thread_goes_on};
 pub use run::run_by_turns;
 
 mod acts;
-mod held;
 mod laws;
-mod names;
-mod progress;
+mod orders;
 mod run;

@@ -5,18 +5,18 @@ ghost use Rattle.pk_model.specs.Apart.{Apart};
 ghost use Rattle.world_core.specs.Session.{IsSession};
 ghost use Rattle.partition.specs.Partition.{PartitionView};
 ghost use Rattle.script_text.specs.LegalReport.{LegalReport};
-ghost use Rattle.serial_run.specs.Serial.{ThreadState, fresh_thread, line_count, report_of as the_report_of, rounds, serial, turn, turns};
-ghost use Rattle.serial_run.specs.WellFormed.{IsWellFormed};
+ghost use Rattle.script_thread.specs.Thread.{ThreadState, fresh_thread};
+ghost use Rattle.serial_run.specs.Serial.{line_count, report_of as the_report_of, rounds, serial, turn, turns};
+ghost use Rattle.script_thread.specs.WellFormed.{IsWellFormed};
 ghost use Rattle.serial_run.specs.Reached.{IsHeldBy, IsReached};
-ghost use Rattle.serial_run.specs.Orders.{HasFewOperands, IsCarriedOut, IsTurnIn, ended_by, have_ended, run_state, thread_state};
+ghost use Rattle.serial_run.specs.Orders.{HasFewOperands, IsCarriedOut, IsTurnIn, ended_by, have_ended, run_state};
 
-use crate::progress::{Progress, Turn};
+use crate::orders::{Turn, obey};
 use entity_store::{Modeller, Steps};
 use partition::Partition;
 use pk_base::{Items, NoMemory};
-use script_text::{
-    EntryList, JournalList, Line, LineList, Report, SaidList, Script, ScriptLine, TranscriptList,
-};
+use script_text::{EntryList, JournalList, LineList, Report, Script, ScriptLine, TranscriptList};
+use script_thread::ScriptThread;
 use std::alloc::Global;
 use std::marker::Brand;
 use std::sync::ledger::{Blank, Ledger};
@@ -65,12 +65,12 @@ fn run_with<K: Modeller, L: Ledger>(
 }
 
 /// So many threads before their first lines.
-fn begin_all(alloc: Global, count: u32) -> Result<Vec<Progress>, NoMemory>
-    ensures { IfOk result (λ all. map thread_state all.items ≡ replicate count fresh_thread) }
+fn begin_all(alloc: Global, count: u32) -> Result<Vec<ScriptThread>, NoMemory>
+    ensures { IfOk result (λ all. all.items ≡ replicate count fresh_thread) }
 {
     let mut all = Vec::new(alloc);
     for _ in 0..count {
-        all.push(Progress::new(alloc))?;
+        all.push(ScriptThread::new(alloc))?;
     }
     Ok(all)
 }
@@ -80,7 +80,7 @@ fn give_turns<K: Modeller, L: Ledger>(
     alloc: Global,
     script: &Script,
     world: &mut World<K>,
-    threads: &mut Vec<Progress>,
+    threads: &mut Vec<ScriptThread>,
     steps: &mut Steps<L>,
 ) -> Result<(), NoMemory>
     requires form { IsWellFormed script.now }
@@ -102,7 +102,7 @@ fn give_rounds<K: Modeller, L: Ledger>(
     alloc: Global,
     script: &Script,
     world: &mut World<K>,
-    threads: &mut Vec<Progress>,
+    threads: &mut Vec<ScriptThread>,
     steps: &mut Steps<L>,
 ) -> Result<(), NoMemory>
     requires form { IsWellFormed script.now }
@@ -122,7 +122,7 @@ fn give_some_rounds<K: Modeller, L: Ledger>(
     alloc: Global,
     script: &Script,
     world: &mut World<K>,
-    threads: &mut Vec<Progress>,
+    threads: &mut Vec<ScriptThread>,
     count: usize,
     steps: &mut Steps<L>,
 ) -> Result<(), NoMemory>
@@ -147,7 +147,7 @@ fn give_round<K: Modeller, L: Ledger>(
     alloc: Global,
     script: &Script,
     world: &mut World<K>,
-    threads: &mut Vec<Progress>,
+    threads: &mut Vec<ScriptThread>,
     steps: &mut Steps<L>,
 ) -> Result<(), NoMemory>
     requires form { IsWellFormed script.now }
@@ -171,7 +171,7 @@ fn give_turn<K: Modeller, L: Ledger>(
     alloc: Global,
     script: &Script,
     world: &mut World<K>,
-    threads: &mut Vec<Progress>,
+    threads: &mut Vec<ScriptThread>,
     thread: u32,
     steps: &mut Steps<L>,
 ) -> Result<(), NoMemory>
@@ -189,7 +189,7 @@ fn give_turn<K: Modeller, L: Ledger>(
     let place = thread as usize - 1;
     let turn = Turn {
         alloc,
-        thread,
+        number: thread,
         partitions: script.n,
     };
     carry_out(
@@ -204,32 +204,29 @@ fn give_turn<K: Modeller, L: Ledger>(
 /// Carries the next of the thread's lines out, if there is one.
 fn carry_out<K: Modeller, L: Ledger>(
     world: &mut World<K>,
-    progress: &mut Progress,
+    thread: &mut ScriptThread,
     lines: &[ScriptLine],
     turn: Turn,
     steps: &mut Steps<L>,
 ) -> Result<(), NoMemory>
     requires session { IsSession K.modelling world.old }
     requires turn { IsTurnIn world.old turn }
-    requires held { AllByRecursion (IsHeldBy world.old turn.thread) progress.old.held }
+    requires held { AllByRecursion (IsHeldBy world.old turn.number) thread.old.held }
     requires few { AllByRecursion HasFewOperands lines.now }
-    ensures { OnOk result (IsCarriedOut K.modelling lines.now turn.thread
-        world.old (thread_state progress.old) world.new (thread_state progress.new)) }
+    ensures { OnOk result (IsCarriedOut K.modelling lines.now turn.number
+        world.old thread.old world.new thread.new) }
 {
-    if let Some(line) = lines.get(progress.said.len()) {
-        if let Some(said) = progress.obey(world, turn, &line.order, steps)? {
-            progress.said.push(Line {
-                number: line.number,
-                said,
-            })?;
+    if let Some(line) = lines.get(thread.said().len()) {
+        if let Some(said) = obey(world, thread, turn, &line.order, steps)? {
+            thread.tell(line.number, said)?;
         }
     }
     Ok(())
 }
 
 /// Whether each thread has been told all its lines.
-fn have_ended(lines: &[LineList], threads: &[Progress]) -> bool
-    ensures { result ≡ have_ended lines.now (map thread_state threads.now) }
+fn have_ended(lines: &[LineList], threads: &[ScriptThread]) -> bool
+    ensures { result ≡ have_ended lines.now threads.now }
 {
     for (place, own) in lines.iter().enumerate() {
         if !has_ended(own.as_slice(), threads.get(place)) {
@@ -240,11 +237,11 @@ fn have_ended(lines: &[LineList], threads: &[Progress]) -> bool
 }
 
 /// Whether the thread, if there is one, has been told all its lines.
-fn has_ended(own: &[ScriptLine], thread: Option<&Progress>) -> bool
+fn has_ended(own: &[ScriptLine], thread: Option<&ScriptThread>) -> bool
     ensures { result ≡ ended_by own.now thread.entry }
 {
     match thread {
-        Some(thread) => thread.said.len() >= own.len(),
+        Some(thread) => thread.said().len() >= own.len(),
         None => true,
     }
 }
@@ -254,7 +251,7 @@ fn report_of<K: Modeller>(
     alloc: Global,
     script: &Script,
     world: World<K>,
-    threads: Vec<Progress>,
+    threads: Vec<ScriptThread>,
 ) -> Result<Report, NoMemory>
     ensures report { IfOk result (λ r. r
         ≡ the_report_of script.now.n script.now.last (run_state world threads.items)) }
@@ -269,13 +266,13 @@ fn report_of<K: Modeller>(
 }
 
 /// What was said to each thread.
-fn transcripts(alloc: Global, threads: Vec<Progress>) -> Result<TranscriptList, NoMemory>
+fn transcripts(alloc: Global, threads: Vec<ScriptThread>) -> Result<TranscriptList, NoMemory>
     ensures { IfOk result (λ all. all
-        ≡ map (λ (s : ThreadState). s.said) (map thread_state threads.items)) }
+        ≡ map (λ (s : ThreadState). s.said) threads.items) }
 {
     let mut all = Vec::new(alloc);
     for thread in threads {
-        all.push(SaidList::of(thread.said))?;
+        all.push(thread.into_transcript())?;
     }
     Ok(Items::of(all))
 }

@@ -4,7 +4,7 @@ use Rattle.std.proofs.lemmas.Bool.{and_parts, leb-true}
 use Rattle.std.specs.List.{AllByRecursion, list_all}
 use Rattle.script_text.specs.declared.script.ScriptLine.{ScriptLine}
 use Rattle.script_text.specs.declared.script.Order.TheVariants.{End}
-use Rattle.serial_run.specs.WellFormed.{IsThread, operand_count}
+use Rattle.script_thread.specs.WellFormed.{IsThread, operand_count}
 
 -- whether the line has at most three tag operands
 abbrev pub has_few : ScriptLine → Bool

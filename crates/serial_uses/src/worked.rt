@@ -2,7 +2,7 @@
 ghost use Rattle.std.specs.Prelude.{◌≡◌};
 ghost use Rattle.pk_model.specs.VertexBodies.{vertex_bodies};
 ghost use Rattle.serial_run.specs.Serial.{serial};
-ghost use Rattle.serial_run.specs.WellFormed.{IsWellFormed};
+ghost use Rattle.script_thread.specs.WellFormed.{IsWellFormed};
 ghost use Rattle.serial_uses.specs.WorkedRuns.{blocked_report, blocked_script};
 ghost use Rattle.serial_uses.specs.WorkedRuns.{named_report, named_script};
 ghost use Rattle.serial_uses.specs.WorkedRuns.{spent_report, spent_script};

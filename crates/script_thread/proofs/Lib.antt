@@ -1,0 +1,9 @@
+pub mod HeldLists
+pub mod Allowed
+pub mod Naming
+pub mod Binding
+pub mod Longer
+pub mod Entries
+pub mod Resting
+pub mod Journals
+pub mod Walked

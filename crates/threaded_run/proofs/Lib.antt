@@ -1,0 +1,2 @@
+mod Through
+mod Closing
